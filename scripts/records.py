@@ -285,7 +285,8 @@ class Replay:
         """Starts the program and writes the line `first` to it. Raises `UsageError` if it cannot be started."""
         try:
             # If this process reads the output, Ctrl-C must interrupt this process alone.
-            self.process = subprocess.Popen([REPLAY, "--record", "-"], stdin=subprocess.PIPE, stdout=output, start_new_session=output is subprocess.PIPE)
+            is_alone = output is subprocess.PIPE
+            self.process = subprocess.Popen([REPLAY, "--record", "-"], stdin=subprocess.PIPE, stdout=output, start_new_session=is_alone)
         except OSError as error:
             raise UsageError(f"cannot start {REPLAY}: {error.strerror}") from error
         self.printed, self.feeder = Printed(), None

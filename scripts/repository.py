@@ -293,6 +293,7 @@ def run(tasks, at_once=PROCESSORS):
                 line.clear()
                 sys.stderr.write(crate_run.output())
             line.log(f"{crate_run.name} {'FAILED' if crate_run.status else 'done'} in {crate_run.minutes():.1f} minutes ({ended} of {len(tasks)})")
-        line.show(f"{len(tasks) - len(left)} of {len(tasks)} crates, {(time.monotonic() - begin) / 60:.1f} minutes: {' '.join(it.name for it in running)}")
+        minutes, names = (time.monotonic() - begin) / 60, " ".join(it.name for it in running)
+        line.show(f"{len(tasks) - len(left)} of {len(tasks)} crates, {minutes:.1f} minutes: {names}")
     line.clear()
     return failed

@@ -1,42 +1,40 @@
 """A daemon on a free port of loopback, a connection to it, and a line of progress."""
 import contextlib
+import ctypes
 import datetime
 import json
 import os
+import pathlib
 import re
 import resource
 import select
-import signal
 import socket
 import subprocess
-import sys
 import tempfile
-import time
+import urllib.parse
 
-from base import CLEAR_LINE, TIMEOUT_SECONDS, CheckFailed, run_check, wait_until
+from base import TIMEOUT_SECONDS, end, wait_until
 
 # The seed of the daemons. No two bytes are equal, so that a byte read at a wrong place is noticed.
 SEED = bytes(range(1, 33)).hex()
 # The most messages of a request, and how many requests are sent at a time.
 MOST_MESSAGES, AT_ONCE = 256, 200
+# The number of the system call `pidfd_getfd`, for which Python has no function.
+PIDFD_GETFD = 438
+NO_SOCKETS = "the system does not show the sockets of other processes"
+# With this environment, each body or event of a megabyte has pages of its own, which the system gets back once it is freed.
+OWN_PAGES = {"MALLOC_MMAP_THRESHOLD_": "65536"}
 FORM = b"application/x-www-form-urlencoded"
 CONNECT = {"channel": "/meta/connect", "connectionType": "long-polling"}
 HANDSHAKE = {"channel": "/meta/handshake", "version": "1.0", "supportedConnectionTypes": ["long-polling"]}
 
 
-class ConnectionEnded(CheckFailed):
+class ConnectionEnded(AssertionError):
     """The connection ended before the response was complete."""
 
 
 class Daemon:
-    """A running bayeuxd that was started with positional arguments. A context manager that ends it.
-
-    `timeout` and `max_interval`: milliseconds. `extra`: the optional arguments at the end,
-    options and limit. `connections`: after how many connections it ends, or 0 for never.
-    """
-
-    def __init__(self, program, timeout, max_interval, *extra, shards=4, connections=0):
-        self.begin([program, "127.0.0.1:0", str(shards), str(timeout), "0", str(max_interval), SEED, str(connections), *extra])
+    """A running bayeuxd. A context manager that ends it. A subclass starts it with `begin`."""
 
     def __enter__(self):
         return self
@@ -47,7 +45,7 @@ class Daemon:
     def begin(self, args, **streams):
         """Starts the command line `args`, and waits until the daemon listens.
 
-        `streams`: keyword arguments of `Popen`. Raises `CheckFailed` if the daemon does not listen.
+        `streams`: keyword arguments of `Popen`.
         """
         self.start(args, **streams)
         self.wait()
@@ -58,29 +56,21 @@ class Daemon:
         self.process = subprocess.Popen(args, stdout=subprocess.PIPE, stderr=self.errors, start_new_session=True, **streams)
 
     def wait(self):
-        """Waits for the first line of standard output, and reads the address from it.
-
-        Raises `CheckFailed` if this line does not say that the daemon listens.
-        """
+        """Waits for the first line of standard output, which must say that the daemon listens, and reads the address from it."""
         line = self.process.stdout.readline().decode()
-        if not line.startswith("listening "):
-            raise CheckFailed(f"it does not listen: {line!r} {self.log_tail()!r}")
+        assert line.startswith("listening "), f"{line!r} {self.log_tail()!r}"
         host, _, port = line.split()[1].rpartition(":")
         self.address = (host.strip("[]"), int(port))
 
     def logged_address(self, prefix):
-        """Returns the host and port that follow `prefix` at the end of a log line.
-
-        Raises `CheckFailed` if there is no such line.
-        """
-        found = re.search(f"{prefix}(\\S+):([0-9]+)$", self.log_tail().decode(), re.MULTILINE)
-        if not found:
-            raise CheckFailed(f"no line with {prefix!r}: {self.log_tail()!r}")
+        """Returns the host and port that follow `prefix` at the end of a log line."""
+        found = re.search(f"{prefix}(\\S+):([0-9]+)$", self.full_log().decode(), re.MULTILINE)
+        assert found, f"no line with {prefix!r}: {self.log_tail()!r}"
         return (found.group(1).strip("[]"), int(found.group(2)))
 
     def readers_address(self):
         """Waits until the log has the address of the readers' listener, and returns it."""
-        self.wait_for_log(r"readers listening address=\S+\n")
+        wait_until("the log has the address of readers", lambda: b"readers listening address=" in self.full_log())
         return self.logged_address("readers listening address=")
 
     def metrics_address(self):
@@ -111,9 +101,8 @@ class Daemon:
         return os.pread(self.errors.fileno(), os.fstat(self.errors.fileno()).st_size, 0)
 
     def check_alive(self):
-        """Raises `CheckFailed` if the process has ended."""
-        if self.process.poll() is not None:
-            raise CheckFailed(f"the daemon ended with status {self.process.returncode}: {self.log_tail()!r}")
+        """Checks that the process runs."""
+        assert self.process.poll() is None, f"status {self.process.returncode}: {self.log_tail()!r}"
 
     def kilobytes(self):
         """Returns the resident memory of the process, in units of 1,024 bytes."""
@@ -123,6 +112,22 @@ class Daemon:
     def descriptors(self):
         """Returns how many file descriptors the process has open."""
         return len(os.listdir(f"/proc/{self.process.pid}/fd"))
+
+    @contextlib.contextmanager
+    def accepted(self, connection):
+        """The daemon's own socket of `connection`, or `None` if the system does not show the sockets of other processes."""
+        process, call = os.pidfd_open(self.process.pid), ctypes.CDLL(None).syscall
+        with contextlib.ExitStack() as stack:
+            stack.callback(os.close, process)
+            for name in os.listdir(f"/proc/{self.process.pid}/fd"):
+                # The call returns -1 for a descriptor that is closed by now, or if it is not allowed. A listener has no peer.
+                with contextlib.suppress(OSError, ValueError):
+                    if os.readlink(f"/proc/{self.process.pid}/fd/{name}").startswith("socket:"):
+                        found = stack.enter_context(socket.socket(fileno=call(PIDFD_GETFD, process, int(name), 0)))
+                        if found.getpeername() == connection.socket.getsockname():
+                            yield found
+                            return
+            yield None
 
     @contextlib.contextmanager
     def without_descriptors(self):
@@ -154,69 +159,21 @@ class Daemon:
             fields = text.read().rpartition(")")[2].split()
         return (int(fields[11]) + int(fields[12])) / os.sysconf("SC_CLK_TCK")
 
+    def run_seconds(self):
+        """Returns the processor time that the threads of the process have used so far, in seconds with nanoseconds."""
+        paths = [f"/proc/{self.process.pid}/task/{it}/schedstat" for it in self.threads()]
+        return sum(int(pathlib.Path(it).read_text(encoding="ascii").split()[0]) for it in paths) / 1e9
+
     def expect_end(self):
-        """Waits until the process has ended. Raises `CheckFailed` if its status is not 0, or its log does not end with `ended`."""
-        if self.process.wait(TIMEOUT_SECONDS) != 0 or not re.search(rb'(\] ended|"event":"ended"})\n\Z', self.full_log()):
-            raise CheckFailed(f"it ended with status {self.process.returncode}: {self.log_tail()!r}")
+        """Waits until the process has ended. Its status must be 0, and its log must end with `ended`."""
+        is_right = self.process.wait(TIMEOUT_SECONDS) == 0 and re.search(rb'(\] ended|"event":"ended"})\n\Z', self.full_log())
+        assert is_right, f"status {self.process.returncode}: {self.log_tail()!r}"
 
     def end(self):
-        """Terminates the process, and kills it if it is still running after 5 seconds."""
-        if self.process.poll() is None:
-            self.process.send_signal(signal.SIGTERM)
-            try:
-                self.process.wait(5)
-            except subprocess.TimeoutExpired:
-                self.process.kill()
-                self.process.wait()
+        """Terminates the process."""
+        end(self.process)
         self.process.stdout.close()
         self.errors.close()
-
-
-class FlagDaemon(Daemon):
-    """A daemon that is started with `flags`.
-
-    It listens at localhost, if `flags` name no other address. It ends at the end of its standard input,
-    or after the number of connections in `flags`, if they have one. Without a `--max-interval`, no session expires during a check, also on a slow machine.
-    `streams`: keyword arguments of `Popen`.
-    """
-
-    def __init__(self, program, *flags, **streams):
-        # pylint: disable=super-init-not-called
-        until = [] if "--connections" in flags else ["--until-eof"]
-        lasting = [] if any(it.startswith("--max-interval") for it in flags) else ["--max-interval", "600s"]
-        listening = [] if "--listen" in flags else ["--listen", "localhost:0"]
-        self.begin([program, *listening, *until, *lasting, *flags], stdin=subprocess.PIPE, **streams)
-
-    def close(self):
-        """Closes the daemon's standard input.
-
-        Raises `CheckFailed` if the daemon does not then end with status 0.
-        """
-        self.process.stdin.close()
-        self.expect_end()
-
-    def end(self):
-        self.process.stdin.close()
-        super().end()
-
-
-class NonExpiringDaemon(FlagDaemon):
-    """A daemon with a page of metrics, in which no session and no hold expires during a check.
-
-    This also holds on a slow machine. `streams`: keyword arguments of `Popen`.
-    """
-
-    def __init__(self, program, *flags, **streams):
-        super().__init__(program, "--timeout", "600s", "--metrics", "127.0.0.1:0", *flags, **streams)
-        self.metrics = self.metrics_address()
-
-
-class DaemonWithReaders(NonExpiringDaemon):
-    """A `NonExpiringDaemon` with a readers' listener."""
-
-    def __init__(self, program, *flags):
-        super().__init__(program, "--readers", "127.0.0.1:0", *flags)
-        self.readers = self.readers_address()
 
 
 class Response:
@@ -229,16 +186,15 @@ class Response:
         self.body = body
 
     def items(self):
-        """Returns the array in the JSON body. Raises `CheckFailed` if the status is not 200."""
-        if self.status != 200:
-            raise CheckFailed(f"status {self.status} in place of items: {self.body[:200]!r}")
+        """Returns the array in the JSON body. The status must be 200."""
+        assert self.status == 200, f"{self.body[:200]!r}"
         return json.loads(self.body)
 
 
 class Connection:
     """A connection to a daemon.
 
-    `timeout`: how long a send or a read may take, in seconds. After that it raises `CheckFailed`.
+    `timeout`: how long a send or a read may take, in seconds. After that it raises `AssertionError`.
     `was_reset`: whether a read found that the daemon has reset the connection.
     """
 
@@ -272,7 +228,7 @@ class Connection:
         try:
             self.socket.sendall(data)
         except socket.timeout as error:
-            raise CheckFailed("nothing is taken any more") from error
+            raise AssertionError("nothing is taken any more") from error
         except OSError as error:
             raise ConnectionEnded(f"ended while it was sent to: {error}") from error
 
@@ -281,7 +237,7 @@ class Connection:
         try:
             data = self.socket.recv(1 << 16)
         except socket.timeout as error:
-            raise CheckFailed(f"no answer; so far {self.input[:200]!r}") from error
+            raise AssertionError(f"no answer; so far {self.input[:200]!r}") from error
         except ConnectionError:
             self.was_reset = True
             return False
@@ -291,16 +247,14 @@ class Connection:
     def response(self):
         """Returns the next response.
 
-        Raises `ConnectionEnded` if the connection ends first, and `CheckFailed` if the response does not state its
-        length. Only a 405 may omit it.
+        Raises `ConnectionEnded` if the connection ends first. Only a 405 may omit its length.
         """
         while b"\r\n\r\n" not in self.input:
             if not self.receive():
                 raise ConnectionEnded(f"ended before a head was whole: {self.input[:200]!r}")
         head, _, rest = self.input.partition(b"\r\n\r\n")
         response = Response(head, b"")
-        if response.status != 405 and b"content-length" not in response.fields:
-            raise CheckFailed(f"no length: {head!r}")
+        assert response.status == 405 or b"content-length" in response.fields, f"no length: {head!r}"
         size = int(response.fields.get(b"content-length", b"0"))
         self.input = rest
         while len(self.input) < size:
@@ -319,14 +273,10 @@ class Connection:
         return responses
 
     def ask(self, messages):
-        """Posts `messages`, and returns the items of the response.
-
-        Raises `CheckFailed` if the status is not 200.
-        """
+        """Posts `messages`, and returns the items of the response, whose status must be 200."""
         self.send(post(json.dumps(messages).encode()))
         response = self.response()
-        if response.status != 200:
-            raise CheckFailed(f"status {response.status} for {messages}")
+        assert response.status == 200, f"for {messages}"
         return response.items()
 
     def repeat(self, request, count):
@@ -374,43 +324,49 @@ def get(query, path=b"/cometd"):
     return b"GET %s%s HTTP/1.1\r\nhost: h\r\n\r\n" % (path, query)
 
 
+def by_form(*documents):
+    """Returns a form with `documents`."""
+    return post(b"&".join([b"message=" + urllib.parse.quote_plus(it).encode() for it in documents]), FORM)
+
+
+def by_callback(document, name=b"jsonp=called&"):
+    """Returns a query with `document`. `name`: the parameter with the callback's name, and an ampersand."""
+    return get(b"?%smessage=%s" % (name, urllib.parse.quote(document).encode()))
+
+
 def expect_status(connection, request, status, reason=None):
-    """Returns the body of the response to `request`. Raises `CheckFailed` if its status is another one.
+    """Returns the body of the response to `request`, which must have this status.
 
     Only a 200 may have a body. A 405 must have the allowed methods. If `reason` is given, the response must have it. A 200 must have none.
     A 200 must have a date, and so must an error of the server's own (RFC 9110, section 6.6.1).
     """
     connection.send(request)
     response = connection.response()
+    what = f"{request[:200]!r}, of {len(request)} bytes"
     methods = b"GET, POST" if status == 405 else None
-    if (response.status, response.fields.get(b"allow"), bool(response.body)) != (status, methods, status == 200):
-        raise CheckFailed(f"not {status} for {request[:200]!r}, of {len(request)} bytes: {response.status} {response.fields} {response.body[:80]!r}")
-    found = response.fields.get(b"bayeux-error", b"").decode()
-    if b"date" not in response.fields and (found or status == 200):
-        raise CheckFailed(f"no date for {request[:200]!r}: {response.status} {response.fields}")
-    if found != (reason or "") and (reason is not None or status == 200):
-        raise CheckFailed(f"not the reason {reason!r} for {request[:200]!r}: {found!r}")
+    found = (response.status, response.fields.get(b"allow"), bool(response.body))
+    assert found == (status, methods, status == 200), f"{response.fields} {response.body[:80]!r} for {what}"
+    said = response.fields.get(b"bayeux-error", b"").decode()
+    assert b"date" in response.fields or not (said or status == 200), f"no date in {response.fields} for {what}"
+    assert said == (reason or "") or (reason is None and status != 200), f"for {what}"
     return response.body
 
 
 def expect_success(items, count):
-    """Returns `items`. Raises `CheckFailed` if they are not `count` successful replies."""
-    if len(items) != count or not all(item.get("successful") for item in items):
-        raise CheckFailed(f"not {count} successful replies: {items}")
+    """Returns `items`, which must be `count` successful replies."""
+    assert len(items) == count and all(item.get("successful") for item in items), f"not {count} successful replies: {items}"
     return items
 
 
 def expect_events(items, events):
-    """Raises `CheckFailed` if `items` are not `events` and then a successful reply."""
-    if items[:-1] != events:
-        raise CheckFailed(f"not the events {events}: {items}")
+    """Checks that `items` are `events` and then a successful reply."""
+    assert items[:-1] == events
     expect_success(items[-1:], 1)
 
 
 def expect_error(items, error):
-    """Raises `CheckFailed` if `items` are not one reply with this error."""
-    if [(item.get("successful"), item.get("error")) for item in items] != [(False, error)]:
-        raise CheckFailed(f"not {error}: {items}")
+    """Checks that `items` are one reply with this error."""
+    assert [(item.get("successful"), item.get("error")) for item in items] == [(False, error)], f"{items}"
 
 
 def open_session(connection, **extra):
@@ -466,7 +422,7 @@ def hold_connect(address, channel):
 def check_serves(address, channel):
     """Checks that the daemon serves a well-behaved client, which publishes to `channel`.
 
-    The client subscribes, publishes, gets its event, and disconnects. Raises `CheckFailed` otherwise.
+    The client subscribes, publishes, gets its event, and disconnects.
     """
     with Connection(address) as connection:
         session = open_session(connection)
@@ -474,9 +430,23 @@ def check_serves(address, channel):
         expect_success(connection.ask([{"channel": channel, "data": {"right": channel}, "id": "p", **session}]), 1)
         items = connection.ask([{**CONNECT, "id": 7, **session}])
         expect_events(items, [{"channel": channel, "data": {"right": channel}, "id": "p"}])
-        if items[-1]["id"] != 7:
-            raise CheckFailed(f"not the id of the connect: {items}")
+        assert items[-1]["id"] == 7, items
         expect_success(connection.ask([{"channel": "/meta/disconnect", **session}]), 1)
+
+
+def open_many(connection, count):
+    """Opens `count` sessions, and returns the members with their client ids."""
+    connection.renew()
+    responses = connection.repeat(post(json.dumps([HANDSHAKE]).encode()), count)
+    return [{"clientId": expect_success(it.items(), 1)[0]["clientId"]} for it in responses]
+
+
+def close_all(connection, sessions):
+    """Ends all `sessions`."""
+    connection.renew()
+    for at in range(0, len(sessions), AT_ONCE):
+        some = sessions[at : at + AT_ONCE]
+        expect_success(connection.ask([{"channel": "/meta/disconnect", **it} for it in some]), len(some))
 
 
 def has_sanitizer(program):
@@ -488,37 +458,3 @@ def has_sanitizer(program):
 def with_sanitizer_options(options):
     """Returns the environment with more `options` of AddressSanitizer. They have no effect on a program without it."""
     return {**os.environ, "ASAN_OPTIONS": f"{os.environ.get('ASAN_OPTIONS', '')}:{options}"}
-
-
-def run_with_daemon(name, daemon, check):
-    """Calls `check` with `daemon`, ends the daemon, and returns the status as `run_check` does.
-
-    `name`: the path of the script, for messages.
-    """
-    try:
-        return run_check(name, lambda: check(daemon))
-    finally:
-        daemon.end()
-
-
-class Progress:
-    """A line of progress on standard error. Nothing is shown if that is not a terminal."""
-
-    def __init__(self):
-        self.start = time.monotonic()
-        self.last = 0.0
-
-    def seconds(self):
-        """Returns the time since this object was created, in seconds."""
-        return time.monotonic() - self.start
-
-    def show(self, text):
-        """Shows `text`, at most five times a second."""
-        if sys.stderr.isatty() and self.seconds() - self.last > 0.2:
-            self.last = self.seconds()
-            print(f"\r{self.last:5.0f} s  {text}\x1b[K", end="", file=sys.stderr, flush=True)
-
-    def clear(self):
-        """Clears the line."""
-        if sys.stderr.isatty():
-            print(CLEAR_LINE, end="", file=sys.stderr, flush=True)

@@ -6,7 +6,6 @@ import json
 import re
 import urllib.parse
 
-from base import CheckFailed
 from daemon import MOST_MESSAGES, post
 
 DEPTH = 127
@@ -21,7 +20,7 @@ CHANNELS = [
     *("/a/b", "/a/b/c", "/a", "/service/x", "/meta/x", "/meta", "/", "", "a", "/a//b", "/a/", "/a/*", "/a/**", "/a b"),
     *("/\u00e9/\U0001f600", "/a\u0000", "/" + "a" * 255, "/" + "a" * 256, "/a" * 32, "/a" * 33, "/\u2028", "/a\\\"b"),
 ]
-VALUES = [None, True, False, 0, -0.0, 7, -1, 2**63, 2**64, 1e300, 1.5, "", "x", "\u2028\u2029", "\u0000", [], {}, [[1], {"a": []}]]
+VALUES: list[object] = [None, True, False, 0, -0.0, 7, -1, 2**63, 2**64, 1e300, 1.5, "", "x", "\u2028\u2029", "\u0000", [], {}, [[1], {"a": []}]]
 TOKENS = [
     *(b'"', b"\\", b"{", b"}", b"[", b"]", b",", b":", b"\\u0000", b"\\ud800", b"\\udc00\\ud800", b"\\ud83d\\ude00", b"\xff"),
     *(b"\x00", b"\xc0\x80", b"\xed\xa0\x80", b"\xf4\x90\x80\x80", b"\xef\xbb\xbf", b"1e999", b"-1e999", b"-0", b"01", b"1.", b".5"),
@@ -96,67 +95,48 @@ def joined(bodies):
 
 
 def check_reply(message, reply):
-    """Raises `CheckFailed` if `reply` is not a valid reply to `message`."""
+    """Checks that `reply` is a valid reply to `message`."""
     wanted = message.get("id")
     is_repeated = isinstance(wanted, (str, int, float)) and not isinstance(wanted, bool)
-    if reply["channel"] != message["channel"] or ("id" in reply) != is_repeated or (is_repeated and reply["id"] != wanted):
-        raise CheckFailed(f"reply {reply} to message {message}")
-    if reply["successful"] is True:
-        if "error" in reply:
-            raise CheckFailed(f"an error in a success: {reply}")
-    elif reply["successful"] is not False or not ERROR.fullmatch(reply["error"]):
-        raise CheckFailed(f"no error in {reply}")
+    assert (reply["channel"], "id" in reply) == (message["channel"], is_repeated), (message, reply)
+    assert not is_repeated or reply["id"] == wanted, (message, reply)
+    assert ("error" not in reply) if reply["successful"] is True else ERROR.fullmatch(reply["error"]), reply
 
 
 def check_items(messages, items):
-    """Raises `CheckFailed` if `items` are not the replies to `messages` in order.
-
-    There may be events between the replies.
-    """
+    """Checks that `items` are the replies to `messages` in order. There may be events between the replies."""
     replies = [item for item in items if "successful" in item]
-    if len(replies) != len(messages):
-        raise CheckFailed(f"{len(replies)} replies to {len(messages)} messages")
+    assert len(replies) == len(messages)
     for message, reply in zip(messages, replies):
         check_reply(message, reply)
-    for event in items:
-        if "successful" not in event and not {"channel", "data"} <= set(event) <= {"channel", "data", "id"}:
-            raise CheckFailed(f"no event: {event}")
+    assert all({"channel", "data"} <= set(it) <= {"channel", "data", "id"} for it in items if "successful" not in it), items
 
 
 def check_status(response, wanted):
-    """Raises `CheckFailed` if the status is not `wanted`, or if an error response has a body."""
-    if response.status != wanted:
-        raise CheckFailed(f"status {response.status} and not {wanted}")
-    if wanted != 200 and response.body:
-        raise CheckFailed(f"a body with status {wanted}: {response.body[:200]!r}")
+    """Checks the status. An error response has no body."""
+    assert response.status == wanted, response.body[:200]
+    assert wanted == 200 or not response.body
 
 
 def check_post(messages, response):
-    """Raises `CheckFailed` if `response` is not the right response to a POST of `messages`.
-
-    `messages` is `None` if the request is not valid.
-    """
+    """Checks the response to a POST of `messages`, or of a request that is not valid if it is `None`."""
     check_status(response, 400 if messages is None else 200)
     if messages is not None:
-        if response.fields[b"content-type"] != b"application/json;charset=UTF-8":
-            raise CheckFailed(f"content type {response.fields}")
+        assert response.fields[b"content-type"] == b"application/json;charset=UTF-8"
         check_items(messages, response.items())
 
 
 def check_call(name, messages, response):
-    """Raises `CheckFailed` if `response` does not call the callback `name` with the answer to `messages`.
+    """Checks that `response` calls the callback `name` with the answer to `messages`.
 
-    `messages` is `None` if a document is not valid. The status must then be 400, and also if `name`
-    is not valid.
+    `messages` is `None` if a document is not valid. The status must then be 400, and also if `name` is not valid.
     """
     is_valid = messages is not None and NAME.fullmatch(name)
     check_status(response, 200 if is_valid else 400)
     if is_valid:
-        head, tail = name.encode() + b"(", b")"
-        body = response.body
-        if response.fields[b"content-type"] != b"application/javascript;charset=UTF-8" or not body.startswith(head):
-            raise CheckFailed(f"no script: {response.fields} {body[:200]!r}")
-        check_items(messages, json.loads(body[len(head) : body.rindex(tail)]))
+        head = name.encode() + b"("
+        assert response.fields[b"content-type"] == b"application/javascript;charset=UTF-8" and response.body.startswith(head)
+        check_items(messages, json.loads(response.body[len(head) : response.body.rindex(b")")]))
 
 
 def message(random, clients, wrong=0.2):
@@ -312,7 +292,6 @@ def route_case(random, _clients):
 
     def check(response):
         check_status(response, status)
-        if status == 405 and response.fields.get(b"allow") != b"GET, POST":
-            raise CheckFailed(f"the methods that are allowed: {response.fields}")
+        assert status != 405 or response.fields.get(b"allow") == b"GET, POST"
 
     return b"%s %s HTTP/1.1\r\nhost: h\r\ncontent-length: 0\r\n\r\n" % (method, path), check

@@ -1,47 +1,30 @@
-"""Runs nginx with packaging/nginx/nginx.conf, and checks what it serves and rejects."""
+"""Runs nginx with the configurations of packaging/nginx, and sends requests to it."""
 import contextlib
 import getpass
+import http.client
+import json
+import os
 import pathlib
+import re
+import socket
+import ssl
 import subprocess
+import urllib.parse
 
-from base import TOP, CheckFailed, can_connect, end, expect_equal, free_port, read, wait_until
+from base import TOP, can_connect, end, read, reserved_port, wait_until
+from daemon import HANDSHAKE
 
 # The lines of the configuration that disable callback-polling.
-CALLBACK_POLLING_OFF = """            limit_except POST {
-                deny all;
-            }
-"""
+CALLBACK_POLLING_OFF = "limit_except POST {\n    deny all;\n}\n"
+# How long a response may take, in seconds.
+RESPONSE_SECONDS = 60
 # The header fields of responses at /cometd, whatever their status. Those that differ each time are left out.
 NO_SNIFF = {"X-Content-Type-Options": "nosniff"}
 ANSWER = {"Cache-Control": "no-store", "Content-Disposition": 'attachment; filename="f.txt"', **NO_SNIFF}
 # The form of each line of nginx's log, which has no query.
-LOG_LINE = r'127\.0\.0\.1 \[\d\d/\w{3}/\d{4}(:\d\d){3} [+-]\d{4}\] "[A-Z]+ /[^ ?"]*" \d{3} \d+ (-|\d{3}) (-|\d+\.\d{3})'
+LOG_LINE = r'127\.0\.0\.1 \[\d\d/\w{3}/\d{4}(:\d\d){3} [+-]\d{4}\] "[A-Z]+ /[^ ?"]*" \d{3} \d+ (-|\d{3}) (-|\d+\.\d{3}) (-|PASSED|DELAYED|REJECTED)'
+# Header fields that differ each time.
 CHANGING = {"Date", "Content-Length", "Connection", "Last-Modified", "ETag"}
-
-
-def status_of(address, *args):
-    """Returns the status that curl gets from `address`. `args`: more arguments of curl."""
-    result = subprocess.run(["curl", "-sk", "-o", "/dev/null", "-w", "%{http_code}", *args, address], capture_output=True, text=True, check=True)
-    return int(result.stdout)
-
-
-def try_refusals(address, of_a_get):
-    """Checks that nginx serves its own pages and programs, and rejects other requests.
-
-    `of_a_get`: the status of a GET without a browser's header fields.
-    """
-    post = ["-d", "[]", "-H", "Content-Type: application/json"]
-    query = "message=%5B%5D&jsonp=name"
-    foreign = {"https://localhost.example": 403, "null": 403, "https://sub.localhost": 403, address: 200}
-    for origin, status in foreign.items():
-        expect_equal(f"a POST of the origin {origin}", status_of(f"{address}/cometd", *post, "-H", f"Origin: {origin}"), status)
-    for site, status in {"same-origin": 200, "none": 200, "same-site": 403, "cross-site": 403}.items():
-        expect_equal(f"a POST that is {site}", status_of(f"{address}/cometd", *post, "-H", f"Sec-Fetch-Site: {site}"), status)
-    expect_equal("a program's POST", status_of(f"{address}/cometd", *post), 200)
-    expect_equal("a GET", status_of(f"{address}/cometd?{query}"), of_a_get)
-    expect_equal("a foreign page's GET", status_of(f"{address}/cometd?{query}", "-H", "Sec-Fetch-Site: cross-site"), 403)
-    expect_equal("another name", status_of(f"{address}/cometd", *post, "-H", "Host: other.example"), 421)
-    expect_equal("a path below", status_of(f"{address}/cometd/handshake", *post), 200)
 
 
 def make_certificate(folder):
@@ -51,49 +34,150 @@ def make_certificate(folder):
     subprocess.run(certificate, check=True, stderr=subprocess.DEVNULL)
 
 
-def configuration(upstream, secure, folder, changes):
-    """Returns the configuration for tests, with `changes`: new texts by old texts.
+def write_configuration(folder, main, changes):
+    """Writes the configuration `main`, and bayeux.conf and location.conf, below `folder`, in place of the system's folders.
 
-    `upstream`: the port of the server. `secure`: the port of nginx. `folder`: for the files of nginx.
-    Raises `CheckFailed` if a text that is to be replaced is missing.
+    `changes`: new texts by old texts of the three files. Fails if an old text is in none of them.
     """
-    text = read("packaging/nginx/nginx.conf")
-    for old, new in {
-        "user www-data;": f"user {getpass.getuser()};",
-        "/run/nginx.pid": f"{folder}/nginx.pid",
-        "/var/log/nginx/": f"{folder}/",
-        "/etc/nginx/bayeux/": f"{folder}/",
-        "/var/www/bayeux": f"{TOP}/examples",
-        "127.0.0.1:8087": f"127.0.0.1:{upstream}",
-        "listen 80": f"listen 127.0.0.1:{free_port()}",
-        "listen 443": f"listen 127.0.0.1:{secure}",
-        "https://bayeux.example": f"https://localhost:{secure}",
-        "bayeux.example": "localhost",
-        **changes,
-    }.items():
-        if old not in text:
-            raise CheckFailed(f"packaging/nginx/nginx.conf has no {old!r}")
+    for it in ("etc/nginx/conf.d", "etc/nginx/bayeux", "var/log/nginx"):
+        os.makedirs(f"{folder}/{it}", exist_ok=True)
+    texts = {"nginx.conf": main}
+    texts |= {it: read(f"packaging/nginx/{os.path.basename(it)}") for it in ("conf.d/bayeux.conf", "bayeux/location.conf")}
+    for old in changes:
+        assert any(old in it for it in texts.values()), old
+    for name, text in texts.items():
+        text = adapt(text, folder, {old: new for old, new in changes.items() if old in text})
+        pathlib.Path(folder, "etc/nginx", name).write_text(text, encoding="utf-8")
+
+
+def temporary(folder):
+    """Returns the lines of a configuration that move nginx's temporary files below `folder`."""
+    return "".join(f"    {kind}_temp_path {folder}/{kind};\n" for kind in ("client_body", "proxy", "fastcgi", "uwsgi", "scgi"))
+
+
+def own_changes(upstream, plain, secure, folder):
+    """Returns the changes of nginx.conf for tests. `upstream`: the port of the server. `plain`, `secure`: the ports of nginx."""
+    user = "user www-data;"
+    changes = {user: f"user {getpass.getuser()};", "/run/nginx.pid": f"{folder}/nginx.pid", "/var/www/bayeux": f"{TOP}/examples"}
+    for old, port in (("80", plain), ("443", secure)):
+        changes[f"listen {old}"] = f"listen 127.0.0.1:{port}"
+        changes[f"listen [::]:{old}"] = f"listen [::1]:{port}" if has_ipv6() else f"listen unix:{folder}/{port}"
+    return {**changes, "127.0.0.1:8087": f"127.0.0.1:{upstream}", "bayeux.example": "localhost", "http {\n": "http {\n" + temporary(folder)}
+
+
+def has_ipv6():
+    """Returns `True` if this machine has IPv6's loopback."""
+    with contextlib.suppress(OSError), socket.create_server(("::1", 0), family=socket.AF_INET6):
+        return True
+    return False
+
+
+def adapt(text, folder, changes):
+    """Returns `text` with the system's folders moved below `folder`, and with `changes`, a mapping from old texts to new ones."""
+    moved = r"(?<![\w.-])(/etc/nginx/(?!mime)|/var/log/nginx/|/var/www)"
+    for old, new in changes.items():
+        assert old in text, text
         text = text.replace(old, new)
-    paths = "".join(f"    {kind}_temp_path {folder}/{kind};\n" for kind in ("client_body", "proxy", "fastcgi", "uwsgi", "scgi"))
-    return text.replace("http {\n", "http {\n" + paths, 1)
+    return re.sub(moved, rf"{folder}\1", text)
+
+
+class Nginx:
+    """A running nginx at `address`, an origin, and requests to it. `args`: its command line. `folder`: that of its files."""
+
+    def __init__(self, address, args, folder):
+        self.address, self.args, self.folder = address, args, pathlib.Path(folder)
+
+    def connect(self):
+        """Returns a new connection to nginx, which the context ends."""
+        parts = urllib.parse.urlsplit(self.address)
+        if parts.scheme == "http":
+            return contextlib.closing(http.client.HTTPConnection(parts.netloc, timeout=RESPONSE_SECONDS))
+        # The certificate is that of the test.
+        context = ssl._create_unverified_context()  # pylint: disable=protected-access
+        return contextlib.closing(http.client.HTTPSConnection(parts.netloc, timeout=RESPONSE_SECONDS, context=context))
+
+    def ask(self, path="/cometd", method="POST", body="[]", **headers):
+        """Sends a request, and returns the response, whose `text` is its body. `headers`: with _ in place of -."""
+        with self.connect() as connection:
+            return ask_over(connection, path, method, body, **headers)
+
+    def status(self, *args, **headers):
+        """Sends a request as `ask` does, and returns the status."""
+        return self.ask(*args, **headers).status
+
+    def fields(self, *args, **headers):
+        """Sends a request as `ask` does. Returns the header fields of the response, without `CHANGING`."""
+        return fields_of(self.ask(*args, **headers))
+
+    def send(self, path="/cometd", **message):
+        """Sends a message, and returns the items of the response, whose status must be 200."""
+        response = self.ask(path, body=json.dumps([message]))
+        assert response.status == 200, response.text
+        return json.loads(response.text)
+
+    def handshake(self, path="/cometd"):
+        """Opens a session, and returns its client id."""
+        return self.send(path, **HANDSHAKE)[0]["clientId"]
+
+
+def fields_of(response):
+    """Returns the header fields of a response, without `CHANGING`."""
+    return {name: value for name, value in response.getheaders() if name not in CHANGING}
+
+
+def ask_over(connection, path="/cometd", method="POST", body="[]", **headers):
+    """Sends a request over `connection`, and returns the response, whose `text` is its body. `headers`: with _ in place of -."""
+    fields = {**({"Content-Type": "application/json"} if method == "POST" else {})}
+    fields.update({name.replace("_", "-"): value for name, value in headers.items()})
+    connection.request(method, path, body if method == "POST" else None, fields)
+    response = connection.getresponse()
+    response.text = response.read().decode()
+    return response
+
+
+@contextlib.contextmanager
+def running(folder, port):
+    """Runs nginx with its configuration below `folder`, and yields its command line. Fails if it does not listen at `port`."""
+    args = ["nginx", "-e", f"{folder}/error.log", "-c", f"{folder}/etc/nginx/nginx.conf"]
+    process = subprocess.Popen([*args, "-g", "daemon off;"], stderr=subprocess.DEVNULL)
+    try:
+        wait_until("nginx listens", lambda: can_connect(port) or process.poll() is not None)
+        assert process.poll() is None, pathlib.Path(folder, "error.log").read_text(encoding="utf-8")
+        yield args
+    finally:
+        end(process)
 
 
 @contextlib.contextmanager
 def serving(upstream, folder, changes):
-    """Runs nginx in front of the server at port `upstream`, and yields the address of nginx.
+    """Runs nginx with nginx.conf in front of the server at port `upstream`, and yields the address of nginx.
 
-    `folder`: for the files of nginx. `changes`: see `configuration`. Raises `CheckFailed` if nginx does
-    not start.
+    `folder`: for the files of nginx. `changes`: new texts by old texts of the configuration.
     """
-    make_certificate(folder)
-    secure = free_port()
-    pathlib.Path(folder, "nginx.conf").write_text(configuration(upstream, secure, folder, changes), encoding="utf-8")
-    args = ["nginx", "-e", f"{folder}/error.log", "-c", f"{folder}/nginx.conf", "-g", "daemon off;"]
-    process = subprocess.Popen(args, stderr=subprocess.DEVNULL)
-    try:
-        wait_until("nginx listens", lambda: can_connect(secure) or process.poll() is not None)
-        if process.poll() is not None:
-            raise CheckFailed(f"nginx does not start: {pathlib.Path(folder, 'error.log').read_text(encoding='utf-8')}")
-        yield f"https://localhost:{secure}"
-    finally:
-        end(process)
+    with reserved_port() as plain, reserved_port() as secure:
+        write_configuration(folder, read("packaging/nginx/nginx.conf"), {**own_changes(upstream, plain, secure, folder), **changes})
+        make_certificate(f"{folder}/etc/nginx/bayeux")
+        with running(folder, secure):
+            yield f"https://localhost:{secure}"
+
+
+@contextlib.contextmanager
+def serving_recipe(folder, recipe, changes, shared):
+    """Runs nginx with a recipe, and yields an `Nginx`. `recipe`: the text of server blocks. The system's folders are below `folder`.
+
+    `changes`: new texts by old texts of the recipe. `shared`: those of bayeux.conf and location.conf.
+    """
+    os.makedirs(f"{folder}/var/www/members", exist_ok=True)
+    for page in ("index.html", "members/index.html"):
+        pathlib.Path(folder, "var/www", page).write_text("a page", encoding="ascii")
+    user = f"user {getpass.getuser()};" if os.geteuid() == 0 else ""
+    with reserved_port() as port:
+        main = f"""
+        {user} worker_processes 2; pid {folder}/pid; events {{ worker_connections 1000; }}
+        http {{
+            access_log off; {temporary(folder)} include /etc/nginx/conf.d/*.conf;
+            server {{ listen 127.0.0.1:{port}; root /var/www; {adapt(recipe, folder, changes)} }}
+        }}"""
+        write_configuration(folder, main, shared)
+        with running(folder, port) as args:
+            yield Nginx(f"http://127.0.0.1:{port}", args, folder)

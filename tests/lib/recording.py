@@ -1,57 +1,59 @@
-"""A bayeuxd that records, and checks of the answers in its record."""
+"""Records of a bayeuxd, and checks of the answers in them by scripts/replay_record."""
+from __future__ import annotations
+
 import os
 import re
 import signal
 import subprocess
+from pathlib import Path
 
-from base import TOP, CheckFailed
-from daemon import FlagDaemon
+from base import TOP
+from records import Reader, Source, answer_of, is_request
 
-REPLAY = os.environ.get("REPLAY", f"{TOP}/crates/bayeux_replay/out/bayeux_replay")
 REPLAY_RECORD = f"{TOP}/scripts/replay_record"
-# With this flag a daemon records its answers. Not every daemon has it.
-ANSWERS = "--record-answers"
-
-
-class RecordingDaemon(FlagDaemon):
-    """A daemon that records into the file `path`.
-
-    `flags`: more flags. `streams`: keyword arguments of `Popen`.
-    """
-
-    def __init__(self, program, path, *flags, **streams):
-        super().__init__(program, "--record", path, *flags, **streams)
-
-
-def records_answers(program):
-    """Returns `True` if `program` has the flag --record-answers."""
-    return ANSWERS in subprocess.run([program, "--help"], capture_output=True, text=True, check=False).stdout.split()
 
 
 class Check:
     """A run of scripts/replay_record, which checks the answers in the record `path`.
 
-    With the flag --follow it waits for more of the record.
+    `replay`: the program that replays. With the flag --follow, it waits for more of the record.
     """
 
-    def __init__(self, path, *flags):
-        self.process = subprocess.Popen([REPLAY_RECORD, "--record", path, "--check", *flags], bufsize=0, stdout=subprocess.PIPE, stderr=subprocess.STDOUT)
+    def __init__(self, replay: str, path: str | Path, *flags: str) -> None:
+        args = [REPLAY_RECORD, "--record", str(path), "--check", *flags]
+        environment = {**os.environ, "REPLAY": replay}
+        self.process = subprocess.Popen(args, bufsize=0, stdout=subprocess.PIPE, stderr=subprocess.STDOUT, env=environment)
 
-    def end(self):
-        """Waits for the end, and returns how many answers were compared.
+    def __enter__(self) -> Check:
+        return self
 
-        Raises `CheckFailed` if one differs.
-        """
+    def __exit__(self, *_) -> None:
+        self.process.kill()
+        self.process.wait()
+
+    def end(self) -> int:
+        """Waits for the end, and returns how many answers were compared. None may be wrong."""
         output = self.process.communicate()[0].decode()
         compared = re.search("^answers compared: ([0-9]+), wrong: 0,", output, re.M)
-        if self.process.returncode != 0 or not compared:
-            raise CheckFailed(f"{' '.join(self.process.args)} ended with status {self.process.returncode}: {output}")
+        assert self.process.returncode == 0 and compared, output
         return int(compared[1])
 
-    def interrupt(self):
+    def interrupt(self) -> int:
         """Ends a check that follows, and returns how many answers were compared, as `end` does."""
-        output = self.process.stdout.readline()
+        assert self.process.stdout and self.process.stdout.readline().startswith(b"following ")
         self.process.send_signal(signal.SIGTERM)
-        if not output.startswith(b"following "):
-            raise CheckFailed(f"a check does not follow: {output!r}")
         return self.end()
+
+
+def read_record(path: str | Path) -> tuple[list[tuple[int, bytes]], dict[int, bytes], int]:
+    """Returns the place and the line of each request in a record, the digests of answers by place, and the place at the end."""
+    source, reader, requests, digests = Source(str(path)), Reader(), [], {}
+    source.begin()
+    for _, text in source.lines():
+        line, _ = reader.read(text)
+        answer = answer_of(text)
+        if is_request(line):
+            requests.append((line.place, text))
+        if answer:
+            digests[answer[0]] = answer[1]
+    return requests, digests, reader.place

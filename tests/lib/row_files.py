@@ -12,8 +12,10 @@ Row = namedtuple("Row", "name arguments script expected")
 MACRO = re.compile("<([^<>]*)>")
 # The number of hexadecimal digits of a client id.
 CLIENT = 48
+# Words that repeat their last argument, and what is between two copies.
+REPEATED = {"times": "", "list": ","}
 # Words for characters that cannot be seen in a text file.
-CHARACTERS = {"space": " ", "return": "\r", "zero": "\0"}
+CHARACTERS = {"space": " ", "return": "\r", "zero": "\0", "newline": "\n"}
 
 
 def read_macros():
@@ -41,6 +43,9 @@ def expand_match(match):
     name, *rest = match[1].split(" ", 1)
     if name == "client":
         return rest[0].zfill(CLIENT)
+    if name in REPEATED:
+        number, repeated = rest[0].split(" ", 1)
+        return REPEATED[name].join([repeated] * int(number))
     count, text = MACROS[name]
     arguments = rest[0].split(" ", count - 1) if rest else []
     if len(arguments) != count:

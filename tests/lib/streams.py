@@ -1,10 +1,8 @@
 """Byte streams that are not valid HTTP, or valid HTTP that arrives in an unusual way."""
-import select
+import contextlib
 import socket
 import struct
-import time
 
-from base import CheckFailed
 from daemon import Connection, ConnectionEnded, post
 from documents import LIMIT, check_post, check_status, document, messages_of
 
@@ -14,11 +12,16 @@ HEADS = [
     *(b"GET", b"GET /", b"GET / HTTP/1.1", b"GET / HTTP/1.1\r\n", b"GET / HTTP/1.1\r\nhost: h\r\n", b"POST /cometd HTTP/9.9\r\n\r\n"),
     *(b"POST /cometd HTTP/1.1\r\n\r\n", b"GET /\x00 HTTP/1.1\r\nhost: h\r\n\r\n", b" GET / HTTP/1.1\r\nhost: h\r\n\r\n", b"\r\n\r\n\r\n"),
     *(b"GET / HTTP/1.1\r\nhost h\r\n\r\n", b"GET / HTTP/1.1\r\nhost: h\r\nhost: i\r\n\r\n", b"GET / HTTP/1.1\r\n host: h\r\n\r\n"),
-    *(b"GET /cometd?%s HTTP/1.1\r\nhost: h\r\n\r\n" % (b"a" * 70000), b"GET / HTTP/1.1\r\nhost: h\r\n%s\r\n" % (b"a: b\r\n" * 101)),
-    *(b"GET / HTTP/1.1\r\nhost: h\r\na: %s\r\n\r\n" % (b"b" * 70000), b"PRI * HTTP/2.0\r\n\r\nSM\r\n\r\n", b"\x16\x03\x01\x02\x00\x01\x00\x01\xfc\x03\x03"),
-    *(b"POST /cometd HTTP/1.1\r\nhost: h\r\ncontent-length: -1\r\n\r\n", b"POST /cometd HTTP/1.1\r\nhost: h\r\ncontent-length: 1\r\ncontent-length: 2\r\n\r\n[]"),
+    b"GET /cometd?%s HTTP/1.1\r\nhost: h\r\n\r\n" % (b"a" * 70000),
+    b"GET / HTTP/1.1\r\nhost: h\r\n%s\r\n" % (b"a: b\r\n" * 101),
+    b"GET / HTTP/1.1\r\nhost: h\r\na: %s\r\n\r\n" % (b"b" * 70000),
+    b"PRI * HTTP/2.0\r\n\r\nSM\r\n\r\n",
+    b"\x16\x03\x01\x02\x00\x01\x00\x01\xfc\x03\x03",
+    b"POST /cometd HTTP/1.1\r\nhost: h\r\ncontent-length: -1\r\n\r\n",
+    b"POST /cometd HTTP/1.1\r\nhost: h\r\ncontent-length: 1\r\ncontent-length: 2\r\n\r\n[]",
     *(b"POST /cometd HTTP/1.1\r\nhost: h\r\ncontent-length: 99999999999999999999\r\n\r\n", b"POST /cometd HTTP/1.0\r\ncontent-length: 2\r\n\r\n[]"),
-    *(b"POST /cometd HTTP/1.1\r\nhost: h\r\ncontent-length: 2\r\ntransfer-encoding: chunked\r\n\r\n0\r\n\r\n", b"OPTIONS * HTTP/1.1\r\nhost: h\r\n\r\n"),
+    b"POST /cometd HTTP/1.1\r\nhost: h\r\ncontent-length: 2\r\ntransfer-encoding: chunked\r\n\r\n0\r\n\r\n",
+    b"OPTIONS * HTTP/1.1\r\nhost: h\r\n\r\n",
     *(b"POST /cometd HTTP/1.1\r\nhost: h\r\ntransfer-encoding: gzip, chunked\r\n\r\n0\r\n\r\n", b"CONNECT h:1 HTTP/1.1\r\nhost: h\r\n\r\n"),
     *(b"POST http://h/cometd HTTP/1.1\r\nhost: h\r\ncontent-length: 2\r\n\r\n[]", b"HEAD /cometd HTTP/1.0\r\n\r\n"),
     *(b"GET /cometd HTTP/1.1\r\nhost: h\r\nconnection: upgrade\r\nupgrade: websocket\r\n\r\n", b"GET /cometd HTTP/1.1\nhost: h\n\n"),
@@ -108,98 +111,51 @@ def cut(random, clients):
 def end(random, address, data):
     """Sends `data` on a new connection, and ends the connection in one of three ways.
 
-    It shuts down the sending side only, closes the socket, or resets the connection. In the first
-    case it reads the responses, and raises `CheckFailed` if one has an unexpected status.
+    It shuts down the sending side only, closes the socket, or resets the connection. In the first case it reads the responses, and
+    checks their statuses.
     """
     way = random.choice(("half", "half", "close", "reset"))
     with Connection(address) as connection:
-        try:
+        with contextlib.suppress(ConnectionEnded, OSError):
             connection.send(data)
             if way == "half":
                 connection.socket.shutdown(socket.SHUT_WR)
-        except (ConnectionEnded, OSError):
-            pass
         if way == "reset":
             connection.socket.setsockopt(socket.SOL_SOCKET, socket.SO_LINGER, struct.pack("ii", 1, 0))
         if way == "half":
-            for response in connection.read_to_end():
-                if response.status not in STATUSES:
-                    raise CheckFailed(f"status {response.status}")
+            assert {it.status for it in connection.read_to_end()} <= STATUSES
 
 
-def check_large(random, address, _daemon):
-    """Posts a body of about the largest allowed size, and checks the response.
-
-    Returns 1, the number of requests.
-    """
+def check_large(random, address):
+    """Posts a body of about the largest allowed size, and checks the response."""
     body = b'[{"channel":"/a/b","clientId":"x","data":1}]'
     size = LIMIT + random.choice((-1, 0, 0, 1, 1, 5000, 1 << 20))
     at = random.choice((0, len(body)))
     body = body[:at] + b" " * (size - len(body)) + body[at:]
-    is_whole = random.random() < 0.5
-    data = post(body) if is_whole else post_chunked(chunks(random, body, (999, 50000, 1 << 19)) + b"0\r\n\r\n")
+    data = post(body) if random.random() < 0.5 else post_chunked(chunks(random, body, (999, 50000, 1 << 19)) + b"0\r\n\r\n")
     with Connection(address) as connection:
-        try:
+        with contextlib.suppress(ConnectionEnded):
             connection.send(data)
-        except ConnectionEnded:
-            pass
         response = connection.response()
         if size > LIMIT:
             check_status(response, 413)
         else:
             check_post(messages_of(body), response)
-    return 1
 
 
-def check_slow(random, address, _daemon):
-    """Sends 20 requests in small pieces, on 20 connections at the same time.
-
-    Checks the responses, and returns the number of requests.
-    """
+def check_slow(random, address):
+    """Sends 20 requests in small pieces, on 20 connections at the same time, and checks the responses."""
     left, cases = {}, []
-    for _ in range(20):
-        body = document(random, ["x"])
-        data = post(body) if random.random() < 0.5 else post_chunked(chunked(random, body))
-        connection = Connection(address)
-        cases.append((connection, messages_of(body), data))
-        left[connection] = data
-    try:
+    with contextlib.ExitStack() as stack:
+        for _ in range(20):
+            body = document(random, ["x"])
+            connection = stack.enter_context(Connection(address))
+            left[connection] = post(body) if random.random() < 0.5 else post_chunked(chunked(random, body))
+            cases.append((connection, messages_of(body)))
         while any(left.values()):
             for connection, data in left.items():
                 size = max(1, random.randrange(1 + len(data) // 10))
                 connection.send(data[:size])
                 left[connection] = data[size:]
-            time.sleep(0.01)
-        for connection, messages, data in cases:
-            try:
-                check_post(messages, connection.response())
-            except CheckFailed as error:
-                raise CheckFailed(f"{error}, slowly sent: {data!r}") from error
-    finally:
-        for connection in left:
-            connection.socket.close()
-    return len(cases)
-
-
-def check_unread(random, address, daemon):
-    """Sends requests and reads no response, until the daemon stops reading or has read 64 MiB.
-
-    Raises `CheckFailed` if the daemon's memory grows by more than 64 MiB. Returns 1: all of it counts as
-    one request.
-    """
-    request = post(b"[%s]" % b",".join([b'{"channel":"/meta/x"}'] * 64))
-    before, sent, idle = daemon.kilobytes(), 0, 0
-    with Connection(address) as connection:
-        connection.socket.setblocking(False)
-        data = request * 20
-        while idle < 5 and sent < 64 << 20:
-            if not select.select([], [connection.socket], [], 0.1)[1]:
-                idle += 1
-                continue
-            try:
-                sent += connection.socket.send(data[sent % len(request) :])
-            except OSError as error:
-                raise CheckFailed(f"ended after {sent} bytes: {error}") from error
-    if daemon.kilobytes() - before > 64 << 10:
-        raise CheckFailed(f"{daemon.kilobytes() - before} kB more after {sent} bytes of requests whose responses nobody read")
-    return 1
+        for connection, messages in cases:
+            check_post(messages, connection.response())

@@ -3,7 +3,10 @@
    - The first 8 bytes of the file that CLOCK_FILE names are a number of milliseconds, which may grow at any time. All
      clocks go on as usual, and are ahead by this number.
    - If CLOCK_STANDS is set, the monotonic clock moves only when this number grows, and the other clocks are not changed.
-     A wait for events then ends after at most WAIT milliseconds, so that the program notices a new number.
+     A wait for events then ends after at most WAIT milliseconds, so that the program notices a new number. The third 8 bytes
+     of the file count these waits. A read that waits for data has no timeout, since the system would measure it.
+   - If CLOCK_SLEEPS is set too, a sleep of at least TICK milliseconds ends only when the clock has moved by its length. The next
+     8 bytes of the file count the sleeps that have begun. So a test lets the daemon's ticks happen one by one.
    - The first accepts fail, each with the next error of ACCEPT_ERRORS, which has numbers and commas.
    - If PROC is set, it names a folder. Files are opened there in place of /proc.
    - If PROCESSORS is set, the program may use this number of processors.
@@ -29,22 +32,26 @@
 #include <unistd.h>
 
 #define WAIT 10
+#define TICK 100
+/* How often a sleep looks at the clock, in nanoseconds. */
+#define LOOK 200000
 
 static struct timespec start;
 static _Atomic int64_t *ahead;
-static int stands;
+static int stands, sleeps;
 static _Atomic(char *) errors;
 
 __attribute__((constructor)) static void begin(void) {
     const char *path = getenv("CLOCK_FILE");
     errors = getenv("ACCEPT_ERRORS");
     if (!path) return;
-    int file = open(path, O_RDONLY | O_CLOEXEC);
-    void *found = mmap(NULL, sizeof *ahead, PROT_READ, MAP_SHARED, file, 0);
+    int file = open(path, O_RDWR | O_CLOEXEC);
+    void *found = mmap(NULL, 3 * sizeof *ahead, PROT_READ | PROT_WRITE, MAP_SHARED, file, 0);
     close(file);
     if (found == MAP_FAILED) abort();
     syscall(SYS_clock_gettime, CLOCK_MONOTONIC, &start);
     stands = getenv("CLOCK_STANDS") != NULL;
+    sleeps = stands && getenv("CLOCK_SLEEPS") != NULL;
     ahead = found;
 }
 
@@ -60,8 +67,26 @@ int clock_gettime(clockid_t clock, struct timespec *now) {
 }
 
 int epoll_wait(int queue, struct epoll_event *events, int count, int wait) {
+    if (stands) ahead[2]++;
     if (stands && (wait > WAIT || wait < 0)) wait = WAIT;
     return (int)syscall(SYS_epoll_pwait, queue, events, count, wait, NULL, 8);
+}
+
+int setsockopt(int socket, int level, int option, const void *value, socklen_t size) {
+    if (stands && level == SOL_SOCKET && option == SO_RCVTIMEO) return 0;
+    return (int)syscall(SYS_setsockopt, socket, level, option, value, size);
+}
+
+int nanosleep(const struct timespec *time, struct timespec *rest) {
+    int64_t length = time->tv_sec * 1000 + time->tv_nsec / 1000000;
+    if (!sleeps || length < TICK) return syscall(SYS_nanosleep, time, rest) < 0 ? -1 : 0;
+    int64_t end = *ahead + length;
+    ahead[1]++;
+    while (*ahead < end) {
+        struct timespec look = {0, LOOK};
+        syscall(SYS_nanosleep, &look, NULL);
+    }
+    return 0;
 }
 
 /* One thread accepts at a time. */

@@ -1,0 +1,138 @@
+"""What tests in Chromium share: a browser for each worker, its windows, a server behind a relay, and a web server."""
+from __future__ import annotations
+
+import contextlib
+import pathlib
+from typing import Callable, Iterator
+
+import pytest
+
+from browser import Browser, Window, missing_package
+from daemon import Connection, HANDSHAKE
+from pages import Chat
+from website import Relay, Site
+
+WINDOWS = pytest.StashKey[list]()
+
+
+def pytest_collection_modifyitems(items: list[pytest.Item]) -> None:
+    """Marks the tests of this folder."""
+    for it in items:
+        if it.path.parent == pathlib.Path(__file__).parent:
+            it.add_marker(pytest.mark.browser)
+
+
+@pytest.hookimpl(hookwrapper=True)
+def pytest_runtest_makereport(item: pytest.Item, call: pytest.CallInfo) -> Iterator[None]:
+    """Adds the texts of the windows of a test that failed to its report, and keeps their pictures in its folder."""
+    report = (yield).get_result()
+    if report.failed and call.when == "call":
+        for number, it in enumerate(item.stash.get(WINDOWS, [])):
+            path = f"{item.funcargs['tmp_path']}/window-{number}.png"
+            try:
+                it.driver.save_screenshot(path)
+                report.sections.append((f"the window in {path}, at {it.driver.current_url}", it.run("return document.body.innerText")))
+            except Exception as error:  # A browser that hangs must not hide why the test failed.
+                report.sections.append((f"window {number} cannot be shown", str(error)))
+
+
+@pytest.fixture(scope="session")
+def browser(tmp_path_factory: pytest.TempPathFactory) -> Iterator[Browser]:
+    """A headless Chromium. Skips the test if a package is missing."""
+    if missing_package():
+        pytest.skip(f"needs Debian's package {missing_package()}")
+    browser = Browser(tmp_path_factory.mktemp("browser"))
+    yield browser
+    browser.end()
+
+
+class Server:
+    """A bayeuxd behind a relay. After a restart, the relay's port is the same."""
+
+    def __init__(self, start_daemon: Callable) -> None:
+        self.relay = Relay()
+        self.start_daemon = start_daemon
+        self.start()
+
+    def start(self, *flags: str) -> None:
+        self.daemon = self.start_daemon(*flags)
+        self.relay.target = self.daemon.address
+
+    def kill(self) -> None:
+        """Kills the daemon, and all connections to it."""
+        self.daemon.kill()
+        self.relay.cut()
+
+    def restart(self, *flags: str) -> None:
+        self.kill()
+        self.start(*flags)
+
+    def ask(self, *messages: dict) -> list[dict]:
+        """Posts `messages`, and returns the items of the response."""
+        with Connection(self.daemon.address) as connection:
+            return connection.ask(list(messages))
+
+    def publish(self, channel: str, *values: object) -> None:
+        """Publishes `values` in a session of their own."""
+        session = {"clientId": self.ask(HANDSHAKE)[0]["clientId"]}
+        messages = [{"channel": channel, "data": it, **session} for it in values]
+        replies = self.ask(*messages, {"channel": "/meta/disconnect", **session})
+        assert all(it["successful"] for it in replies), replies
+
+    def has_session(self, client_id: str) -> bool:
+        """Returns whether the server still has this session."""
+        return self.ask({"channel": "/nobody", "data": 0, "clientId": client_id})[0]["successful"]
+
+
+@pytest.fixture
+def server(browser: Browser, daemon: Callable) -> Iterator[Server]:
+    """A running `Server`."""
+    server = Server(daemon)
+    yield server
+    server.relay.close()
+
+
+@pytest.fixture
+def site(server: Server) -> Iterator[Site]:
+    """A web server for the pages, with `server` at /cometd."""
+    with contextlib.closing(Site(server.relay.port)) as site:
+        yield site
+
+
+@pytest.fixture
+def windows(browser: Browser, request: pytest.FixtureRequest) -> Iterator[Callable]:
+    """Keeps a window until the test ends: `windows(window)`, which returns it.
+
+    No page may then have an error that it did not handle, or something that its Content-Security-Policy blocked.
+    """
+    kept = request.node.stash[WINDOWS] = []
+    with contextlib.ExitStack() as stack:
+
+        def keep(window: Window) -> Window:
+            kept.append(window)
+            stack.callback(window.close)
+            return window
+
+        yield keep
+        troubles = [it.run("return window.troubles ?? []") for it in kept]
+        assert not any(troubles), troubles
+
+
+@pytest.fixture
+def window(browser: Browser, windows: Callable) -> Callable[..., Window]:
+    """Opens windows: `window(address)`. They are closed after the test."""
+    return lambda *arguments: windows(Window(browser, *arguments))
+
+
+@pytest.fixture
+def chat(browser: Browser, windows: Callable) -> Callable[..., Chat]:
+    """Opens windows of the chat: `chat(address, name)`."""
+    return lambda *arguments: windows(Chat(browser, *arguments))
+
+
+@pytest.fixture(scope="session")
+def picture(pytestconfig: pytest.Config) -> Callable[[Window, str], None]:
+    """Writes a picture of a window: `picture(window, name)`. It is out/pictures/NAME.png, from which docs/NAME.png is copied."""
+    folder = pytestconfig.rootpath / "out/pictures"
+    folder.mkdir(parents=True, exist_ok=True)
+    return lambda window, name: window.driver.save_screenshot(f"{folder}/{name}.png")

@@ -1,0 +1,69 @@
+"""The chat in two windows: messages, connections that break, and users who leave. From disk, and behind nginx."""
+from __future__ import annotations
+
+import pytest
+
+from base import TOP, wait_until
+from pages import talk
+
+CHANNEL = "/chat/hall"
+
+
+@pytest.fixture(params=["callback-polling", "long-polling"])
+def transport(request):
+    """The transport of the pages: from disk, or behind nginx with HTTP/2 and a Content-Security-Policy."""
+    return request.param
+
+
+@pytest.fixture
+def ann_and_ben(transport, server, request, chat):
+    """Two windows of the chat."""
+    if transport == "callback-polling":
+        address = f"file://{TOP}/examples/chat/index.html?server={server.relay.address}"
+    else:
+        address = f"{request.getfixturevalue('nginx')(server.relay.port)}/chat/"
+    return chat(address, "Ann"), chat(address, "Ben")
+
+
+def test_two_windows_show_each_message(transport, ann_and_ben, picture):
+    ann, ben = ann_and_ben
+    assert ann.element("#state").get_attribute("title") == transport
+    talk(ann, ben)
+    picture(ann, "chat")
+    assert [len(it.texts("#messages li.own")) for it in (ann, ben)] == [2, 1]
+
+
+def test_no_message_is_lost_or_repeated_if_connections_break(server, ann_and_ben):
+    """First connections are cut. Then each session loses a response."""
+    sent = [f"Sent while the line was broken: {number}" for number in range(1, 4)]
+    server.relay.cut()
+    for it in ann_and_ben:
+        it.wait_state("interrupted")
+    server.publish(CHANNEL, *({"name": "Cleo", "text": text} for text in sent))
+    server.relay.target = server.daemon.address
+    for it in ann_and_ben:
+        it.wait_state("connected")
+        it.wait_messages(sent)
+    sessions = len({it.run("return client.clientId") for it in ann_and_ben})
+    server.relay.loses_responses = True
+    sent.append("In a response that was lost, and came again")
+    server.publish(CHANNEL, {"name": "Cleo", "text": sent[-1]})
+    wait_until("each session has lost a response", lambda: server.relay.lost >= sessions)
+    server.relay.loses_responses = False
+    server.publish(CHANNEL, {"name": "Cleo", "text": "The last one"})
+    for it in ann_and_ben:
+        it.wait_messages([*sent, "The last one"])
+
+
+def test_the_others_see_who_leaves_and_the_session_ends_at_once(server, ann_and_ben):
+    """Windows that share a session end it with the last of them."""
+    ann, ben = ann_and_ben
+    ids = [it.run("return client.clientId") for it in ann_and_ben]
+    assert all(map(server.has_session, ids))
+    ann.driver.get("about:blank")
+    ben.wait_notice("Ann", "left")
+    if ids[0] != ids[1]:
+        wait_until("the session of Ann has ended", lambda: not server.has_session(ids[0]))
+    assert server.has_session(ids[1])
+    ben.driver.get("about:blank")
+    wait_until("the session of Ben has ended", lambda: not server.has_session(ids[1]))

@@ -1,0 +1,147 @@
+"""The end of a daemon: at the end of standard input, and after the last of its connections."""
+import itertools
+import select
+
+import pytest
+
+from base import wait_until
+from daemon import Connection, ConnectionEnded, expect_events, expect_status, expect_success, get, open_session, post, publish, send_connect
+from daemon import subscribe
+from documented import expect_documented
+from metrics import CONNECTS_HELD, OPEN, REFUSED_TICKS, REQUESTS_HELD, ask_for, read_list
+from runs import ANYWHERE, run
+from waiting import wait_for_reads
+
+# The number of shards, and the numbers of the sessions with a held connect. Sessions are assigned to shards in turn.
+SHARDS, HOLDING = 64, range(0, 64, 9)
+UNANSWERED = "the answer is unavailable"
+# How long the daemon serves open connections after the end of standard input, in seconds.
+LEAVE = 1.0
+# After how many waits for events all threads of the daemon have most probably looked at the clock.
+LOOKS = 200
+
+
+def end_second(server, clock):
+    """Lets the second pass in which the daemon serves open connections, and checks its end.
+
+    The second may begin only after the clock was put forward, so that it is put forward again if the daemon has not ended soon.
+    """
+    for _ in range(3):
+        clock.add(LEAVE + 0.05)
+        before = clock.looks()
+        wait_until("the daemon ends or waits", lambda before=before: server.process.poll() is not None or clock.looks() >= before + LOOKS)
+    server.expect_end()
+
+
+def is_served(address):
+    """Returns whether a request at `address` gets any bytes as a response."""
+    try:
+        with Connection(address) as connection:
+            connection.send(post(b"[]"))
+            return connection.receive()
+    except (ConnectionEnded, OSError):
+        return False
+
+
+def hold_connects(client, publisher, *listeners):
+    """Opens `SHARDS` sessions over the connection `publisher`, and sends connects of those in `HOLDING`, at each of `listeners` in turn.
+
+    Returns the connections and the sessions of these connects.
+    """
+    sessions = [open_session(publisher) for _ in range(SHARDS)]
+    held = [(client(listener), sessions[it]) for it, listener in zip(HOLDING, itertools.cycle(listeners))]
+    for it in held:
+        send_connect(*it)
+    return held
+
+
+def test_held_connects_get_503_and_no_connection_is_accepted(daemon, client, clock):
+    """In many shards, and at both listeners. The last one has got its event before."""
+    server = daemon("--shards", str(SHARDS), "--readers", "127.0.0.1:0", env=clock.env)
+    with client(server) as publisher:
+        held = hold_connects(client, publisher, server.readers, server.address)
+        values = server.expect({REQUESTS_HELD: len(held)})
+        assert sum(name == "bayeux_shard_lag_entries" for name, _ in values) == SHARDS
+        last, session = held.pop()
+        subscribe(publisher, "/last", session)
+        publish(publisher, "/last", 1, session)
+        expect_events(last.response().items(), [{"channel": "/last", "data": 1}])
+        last.socket.close()
+    held = [it for it, _ in held]
+    assert not select.select([it.socket for it in held], [], [], 0)[0], "answered early"
+    server.process.stdin.close()
+    assert [it.response().status for it in held] == [503] * len(held)
+    assert not is_served(server.readers) and not is_served(server.address)
+    end_second(server, clock)
+    assert sum(it for _, reason, _, it in server.failed_requests() if reason == UNANSWERED) == len(held)
+    expect_documented(server.full_log())
+
+
+def test_window_keeps_no_requests_that_all_shards_have_applied(daemon, client, ticks):
+    server = daemon("--shards", str(SHARDS), env=ticks.env)
+    publisher = client(server)
+    held = hold_connects(client, publisher, server)
+    server.expect({CONNECTS_HELD: len(held)}, pause=ticks.tick)
+    ticks.tick(2)
+    assert server.scrape()["bayeux_window_batches", ""] == 0
+    sessions = read_list(server.metrics, b"/sessions")
+    assert len({it["number"] for it in sessions}) == SHARDS
+    assert sum(it["held"] for it in sessions) == len(held)
+
+
+def test_late_body_and_health_get_503(daemon, client, clock):
+    """An idle connection does not delay the end by more than a second."""
+    server = daemon(env=clock.env)
+    idle, connection = client(server), client(server)
+    expect_status(idle, post(b"[]"), 200)
+    request = post(b"[     ]")
+    connection.send(request[:-4])
+    wait_for_reads(connection)
+    server.process.stdin.close()
+    wait_until("refused ticks", lambda: server.scrape()[REFUSED_TICKS] > 0)
+    assert ask_for(server.metrics, get(b"", b"/healthz")).status == 503
+    clock.add(LEAVE - 0.1)
+    expect_status(connection, request[-4:], 503)
+    server.check_alive()
+    end_second(server, clock)
+
+
+def test_open_connection_is_served_for_a_second(daemon, client, clock):
+    server = daemon(env=clock.env)
+    connection = client(server)
+    expect_status(connection, post(b"[]"), 200)
+    server.process.stdin.close()
+    wait_until("refused ticks", lambda: server.scrape()[REFUSED_TICKS] > 0)
+    clock.add(LEAVE - 0.1)
+    before = server.scrape()[REFUSED_TICKS]
+    wait_until("more refused ticks", lambda: server.scrape()[REFUSED_TICKS] > before + 1)
+    expect_status(connection, post(b"[]"), 503, "the server is shutting down")
+    # The second may have begun only after the clock was set forward.
+    clock.add(LEAVE + 0.05)
+    server.expect_end()
+
+
+@pytest.mark.parametrize("until", [[], ["--until-eof"]], ids=["", "until eof"])
+def test_last_connection_may_be_held_for_longer_than_a_second(daemon, client, clock, until):
+    server = daemon("--connections", "1", *until, "--timeout", "30s", env=clock.env)
+    with client(server) as connection:
+        session = open_session(connection)
+        send_connect(connection, session)
+        server.expect({CONNECTS_HELD: 1})
+        for _ in range(29):
+            clock.add(1)
+        server.expect({CONNECTS_HELD: 1, OPEN: 1})
+        before = server.scrape()
+        wait_until("ticks", lambda: server.scrape()["bayeux_ticks_total", ""] > before["bayeux_ticks_total", ""] + 1)
+        server.expect({CONNECTS_HELD: 1})
+        clock.add(1.5)
+        expect_success(connection.response().items(), 1)
+        expect_success(connection.ask([{"channel": "/meta/disconnect", **session}]), 1)
+    server.expect_end()
+
+
+def test_daemon_ends_if_its_input_cannot_be_read(program):
+    """As under nohup."""
+    with open("/dev/null", "wb") as unreadable:
+        status, _, errors = run(program, [*ANYWHERE, "--until-eof"], stdin=unreadable)
+    assert status == 0, errors

@@ -1,0 +1,403 @@
+"""Flags and positional arguments: their values and warnings in the log, wrong ones, the help, and all of them together."""
+import json
+import os
+import re
+import select
+import subprocess
+
+import pytest
+
+from base import TIMEOUT_SECONDS, limit_file_size, read, wait_until
+from chacha import drawn
+from daemon import HANDSHAKE, SEED, expect_error, expect_events, expect_status, expect_success, get, open_session, poll, post, publish
+from daemon import subscribe
+from documented import ADDRESSES, FLAGS, GREATEST, SWITCHES, TIMES, VALUES
+from metrics import REFUSED_TICKS, TICKED
+from runs import ANYWHERE, CANNOT_LISTEN, cannot, faults, match, no_place, run, without_times
+
+# What the log has of settings that are off, and of those that the log leaves out. The log has the others as the page has them.
+OFF = {"record-answers": "false", "until-eof": "false", "ride": "false", "anonymous": "false", "bytes": "no-limit"}
+UNLOGGED = {"readers-publish", "seed-file", "log", "log-level"}
+# The settings in the log of a daemon whose flags change none.
+DEFAULTS = {
+    **{name.replace("-", "_"): OFF.get(name, "-" if it[1] == "off" else it[1]) for name, it in FLAGS.items() if name not in UNLOGGED},
+    "shards": str(min(64, len(os.sched_getaffinity(0)))),
+}
+del DEFAULTS["no_callback_polling"]
+DEFAULTS["callback_polling"] = "true"
+# Values of flags, and those in the log if they differ.
+ALIKE = {
+    "listen": ["localhost:0", "[::1]:0"],
+    "readers": ["localhost:0", "[::1]:0"],
+    "metrics": ["localhost:0", "[::1]:0"],
+    "shards": ["3"],
+    "limit": ["5"],
+    "bytes": ["6"],
+    "patterns": ["1023"],
+    "sessions": ["8"],
+    "body": ["9"],
+    "connections": ["1", "4", "4294967296", "18446744073709551615"],
+    "timeout": ["7s", "500ms", "4294967s"],
+    "record": ["one"],
+}
+OTHER = [
+    *(("timeout", "0s", "0"), ("timeout", "1500", "1500ms"), ("interval", "2000", "2s"), ("max-interval", "3000ms", "3s")),
+    *(("limit", "2k", "2048"), ("bytes", "4095m", "4293918720"), ("patterns", "1k", "1024"), ("sessions", "32k", "32768")),
+    *(("body", "64k", "65536"), ("body", "1m", "1048576")),
+]
+LOGGED_TIMES = {"0": "0", "1ms": "1ms", "1000": "1s", "999ms": "999ms", "7200s": "7200s", "4294967295": "4294967295ms"}
+OTHER += [(name, *it) for name in TIMES for it in LOGGED_TIMES.items()]
+OTHER += [(name, value, value) for name, values in ALIKE.items() for value in values]
+OTHER += [(name, str(it), str(it)) for name, greatest in GREATEST.items() for it in (1, greatest)]
+OTHER += [(name, it, it) for name in ADDRESSES for it in ("127.0.0.1:65535", "[::1]:1")]
+# Flags, and the settings that they change.
+SETTINGS = [([f"--{name}", value], {name.replace("-", "_"): logged}) for name, value, logged in OTHER]
+SETTINGS += [([f"--{name}"], {name.replace("-", "_"): "true"}) for name in ("until-eof", "ride", "anonymous")]
+SETTINGS += [
+    (["--no-callback-polling"], {"callback_polling": "false"}),
+    (["--patterns=1023"], {"patterns": "1023"}),
+    (["--readers", "127.0.0.1:0", "--listen", "localhost:0"], {"readers": "127.0.0.1:0", "listen": "localhost:0"}),
+    (["--readers", "localhost:0", "--readers-publish", "/hall"], {"readers": "localhost:0", "readers_publish": "/hall"}),
+    (["--figures", "localhost:0"], {"metrics": "localhost:0"}),
+    (["--log", "text", "--log-level", "info"], {}),
+    (["--record-answers", "--record=two"], {"record": "two", "record_answers": "true"}),
+    (
+        ["[::1]:0", "7", "1", "2000", "4294967295", SEED, "18446744073709551615", "ra", "65536"],
+        {
+            **{"listen": "[::1]:0", "shards": "7", "timeout": "1ms", "interval": "2s", "max_interval": "4294967295ms"},
+            **{"connections": "18446744073709551615", "ride": "true", "anonymous": "true", "limit": "65536"},
+        },
+    ),
+]
+
+
+def test_documented_ranges_are_tested():
+    assert {*GREATEST} == {"shards", "bytes", "sessions", "patterns", "limit", "body"}
+    assert ({*TIMES}, {*ADDRESSES}) == ({"timeout", "interval", "max-interval"}, {"listen", "readers", "metrics"})
+
+
+def name_of(case):
+    """Returns the name of a test with the flags `case`. Other parts of a test have none."""
+    if not isinstance(case, list) or not all(isinstance(it, (str, bytes)) for it in case):
+        return ""
+    return " ".join(map(str, case)) or "none"
+
+
+@pytest.mark.parametrize("flags, changed", SETTINGS, ids=name_of)
+def test_log_has_the_settings(program, flags, changed, tmp_path):
+    how = {"stdin": subprocess.DEVNULL, "stdout": subprocess.DEVNULL, "stderr": subprocess.PIPE, "text": True, "cwd": tmp_path}
+    with subprocess.Popen([program, *flags], **how) as process:
+        line = process.stderr.readline() if select.select([process.stderr], [], [], TIMEOUT_SECONDS)[0] else ""
+        process.kill()
+    assert dict(re.findall(r"(\w+)=(\S+)", line)) == {**DEFAULTS, **changed}
+
+
+def below_second(name, milliseconds):
+    """Returns the warning of a time below a second."""
+    return f'time is below one second {name}={milliseconds}ms hint="for seconds, write {milliseconds}s"'
+
+
+def sessions_end(interval, max_interval):
+    """Returns the warning that sessions end between two connects."""
+    return f'sessions end between two connects interval={interval} max_interval={max_interval} hint="raise --max-interval"'
+
+
+WARNINGS = [
+    ([], []),
+    (["--interval", "5s", "--max-interval", "5s"], [sessions_end("5s", "5s")]),
+    (["--interval", "5s", "--max-interval", "4s"], [sessions_end("5s", "4s")]),
+    (["--interval", "1ms", "--max-interval", "0"], [sessions_end("1ms", "0")]),
+    (["--interval", "5s", "--max-interval", "5001"], []),
+    (["--interval", "0", "--max-interval", "0"], []),
+    (["--timeout", "1ms"], [below_second("timeout", 1)]),
+    (["--timeout", "999ms"], [below_second("timeout", 999)]),
+    (["--timeout", "1s"], []),
+    (["--timeout", "0"], []),
+    (["--max-interval", "6ms"], [below_second("max_interval", 6)]),
+    (["--max-interval", "999ms"], [below_second("max_interval", 999)]),
+    (["--interval", "500ms", "--max-interval", "1000"], []),
+    (["--timeout", "5ms", "--max-interval", "6ms"], [below_second("timeout", 5), below_second("max_interval", 6)]),
+    (
+        ["--timeout", "5ms", "--interval", "6ms", "--max-interval", "6ms"],
+        [below_second("timeout", 5), below_second("max_interval", 6), sessions_end("6ms", "6ms")],
+    ),
+]
+
+
+@pytest.mark.parametrize("flags, warnings", WARNINGS, ids=name_of)
+def test_log_warns_of_unusual_times(daemon, flags, warnings):
+    assert daemon(*flags).logged("WARN") == warnings
+
+
+ADVICE = {"reconnect": "retry", "interval": 0, "timeout": 30000}
+
+
+@pytest.mark.parametrize(
+    "flags, advice",
+    [(["--ride"], ADVICE), (["--interval", "2s", "--timeout", "7s"], {**ADVICE, "interval": 2000, "timeout": 7000})],
+    ids=name_of,
+)
+def test_advice_has_the_times(daemon, client, flags, advice):
+    connection = client(daemon(*ANYWHERE, "--until-eof", *flags, is_plain=True))
+    assert expect_success(connection.ask([HANDSHAKE]), 1)[0]["advice"] == advice
+    # Neither flag allows publishes without a client id.
+    expect_error(connection.ask([{"channel": "/a", "data": 1}]), "401::No client id")
+
+
+# How the daemon describes the values of a time, and an address.
+TIME, ADDRESS = ("a time such as 500ms or 30s, up to 4294967295ms", "a host and a port such as 127.0.0.1:8087")
+OTHER_THAN = "expected an address other than that of --"
+# Flags that can be repeated.
+REPEATED = ["readers-publish"]
+WRONG_TIMES = ("3m", "4294967296", "4294968s", "s", "ms", "-1", "+5", "5 s", "5S", "1.5s", "1h", "1k", "")
+WRONG_ADDRESSES = (
+    *("127.0.0.1", "localhost", "127.0.0.1:", "127.0.0.1:65536", "127.0.0.1:70000", "127.0.0.1:x", "[::1]", ""),
+    *(":8087", ":0", "http://127.0.0.1:8087", "//localhost:0"),
+)
+# Flags with which no daemon serves, and a part of what it prints on standard error.
+WRONG_FLAGS = [
+    (["--shards", "65"], "--shards: expected a number from 1 to 64, got 65"),
+    (["--shards", "0"], "--shards: expected a number from 1 to 64, got 0"),
+    (["--shard", "4"], "unexpected argument '--shard' found"),
+    (["--ride", "x"], "unexpected argument 'x' found"),
+    *((["--listen", "[::1]:8087", f"--{it}", "[::1]:8087"], f"--{it}: {OTHER_THAN}listen, got [::1]:8087") for it in ("readers", "metrics")),
+    (["--readers", "127.0.0.1:8087"], f"--readers: {OTHER_THAN}listen, got 127.0.0.1:8087"),
+    (["--readers", "[::1]:1", "--metrics", "[::1]:1"], f"--metrics: {OTHER_THAN}readers, got [::1]:1"),
+    (["--readers-publish", "/hall"], "the following required arguments were not provided:\n  --readers <ADDRESS>"),
+    (
+        ["--readers", "localhost:0", "--readers-publish", "/hall", "--readers-publish", "hall"],
+        "--readers-publish: expected a pattern of channels such as /chat/*, got hall",
+    ),
+    (
+        ["--readers", "localhost:0", "--readers-publish", "/*/hall"],
+        "--readers-publish: expected a pattern of channels such as /chat/*, got /*/hall",
+    ),
+    (["--record-answers"], "the following required arguments were not provided:\n  --record <FILE>"),
+]
+for flag in TIMES:
+    WRONG_FLAGS += [([f"--{flag}={it}"], f"--{flag}: expected {TIME}, got {it}") for it in WRONG_TIMES]
+    WRONG_FLAGS += [([f"--{flag}", it], f"--{flag}: expected a unit (write {it}s or {it}ms), got {it}") for it in ("1", "30", "999")]
+for flag, most in GREATEST.items():
+    values = (0, most + 1, "4096m", "4294967297", "17179869184m", "x", "+1", "-1", "1s", "1K", "k", "0k", "")
+    units = "" if flag == "shards" else " (units: k, m)"
+    WRONG_FLAGS += [([f"--{flag}={it}"], f"--{flag}: expected a number from 1 to {most}{units}, got {it}") for it in values]
+WRONG_FLAGS += [([f"--body={it}"], f"--body: expected a number from 1 to 1048576 (units: k, m), got {it}") for it in ("2m", "1025k")]
+for it in ("x", "5k", "1m", "-1", "+1", "18446744073709551616", ""):
+    WRONG_FLAGS += [([f"--connections={it}"], f"--connections: expected a number without a unit, got {it}")]
+for flag in ADDRESSES:
+    WRONG_FLAGS += [([f"--{flag}", it], f"--{flag}: expected {ADDRESS}, got {it}") for it in WRONG_ADDRESSES]
+WRONG_FLAGS += [(["--log", it], f"--log: expected text or json, got {it}\n") for it in ("xml", "JSON", "jsons", "")]
+for it in ("debug", "off", "warning", "INFO", ""):
+    WRONG_FLAGS += [(["--log-level", it], f"--log-level: expected error, warn or info, got {it}\n")]
+WRONG_FLAGS += [([f"--{name}"], f"a value is required for '--{name} <{argument}>'") for name, argument in VALUES]
+WRONG_FLAGS += [([f"--{name}=yes"], f"unexpected value 'yes' for '--{name}' found") for name in SWITCHES]
+for flag, word in [*((name, f" <{argument}>") for name, argument in VALUES if name not in REPEATED), *((it, "") for it in SWITCHES)]:
+    given = f"--{flag}=1" if word else f"--{flag}"
+    WRONG_FLAGS += [([given, given], f"the argument '--{flag}{word}' cannot be used multiple times")]
+
+
+@pytest.mark.parametrize("flags, message", WRONG_FLAGS, ids=name_of)
+def test_wrong_flags_are_rejected(program, flags, message):
+    # A daemon that accepts wrong flags then ends at once.
+    ends = [] if any(it.startswith("--until-eof") for it in flags) else ["--until-eof"]
+    status, output, errors = run(program, [*ends, *flags])
+    assert (status, output, errors.startswith("error: ")) == (2, "", True)
+    assert message in errors
+
+
+USAGE = "usage: bayeuxd address shards timeout interval max_interval seed connections [options [limit]]\n"
+# Positional arguments with which a daemon serves. A proof says which ones these are.
+ARGUMENTS = ["127.0.0.1:0", "2", "30000", "0", "10000", SEED, "1"]
+WRONG_ARGUMENTS = [[], ["x"], ARGUMENTS[:-1], ["localhost:0", *ARGUMENTS[1:]], [*ARGUMENTS, "ra", "2", "2"], [b"\xff"]]
+
+
+@pytest.mark.parametrize("arguments", WRONG_ARGUMENTS, ids=lambda it: f"{len(it)} {name_of(it)[:20]}")
+def test_wrong_positional_arguments_print_the_usage(program, arguments):
+    assert run(program, arguments) == (2, "", USAGE)
+
+
+RECORD_EXISTS = "bayeuxd: a record needs a new file: name another one, or move this one away"
+# Flags with which a daemon cannot start, and patterns of all lines on standard error that are no information.
+FAULTS = [
+    ([*ANYWHERE, "--seed-file", "/dev/null"], cannot("cannot read the seed", "/dev/null")),
+    ([*ANYWHERE, "--record", "/dev/null"], [*cannot("cannot create the record", "/dev/null"), RECORD_EXISTS]),
+    ([*ANYWHERE, "--record", "/dev/null/record"], cannot("cannot create the record", "/dev/null/record")),
+    ([*ANYWHERE, "--record", "/nowhere/record"], cannot("cannot create the record", "/nowhere/record")),
+    ([*ANYWHERE, "--record", ""], cannot("cannot create the record", "")),
+]
+# An address of another machine, and a host name that is not valid.
+for it in ("192.0.2.1:0", "a..b:0"):
+    FAULTS += [(["--listen", it], no_place(it)), ([*ANYWHERE, "--readers", it], no_place(it))]
+    FAULTS += [([*ANYWHERE, "--metrics", it], cannot("cannot listen for metrics", it))]
+
+
+@pytest.mark.parametrize("flags, lines", FAULTS, ids=name_of)
+def test_daemon_that_cannot_start_prints_why(program, flags, lines):
+    status, output, errors = run(program, flags)
+    assert (status, output) == (1, "")
+    assert match(faults(errors), lines), f"{errors} for {lines}"
+
+
+def test_daemon_that_cannot_write_the_first_line_of_the_record_ends(program, tmp_path):
+    flags = [*ANYWHERE, "--until-eof", "--log-level=error", "--record", f"{tmp_path}/record"]
+    status, output, errors = run(program, flags, preexec_fn=lambda: limit_file_size(10))
+    assert (status, output) == (1, "")
+    assert match(without_times(errors.splitlines()), cannot("cannot create the record", f"{tmp_path}/record")), errors
+
+
+@pytest.mark.parametrize("level", ["error", "info"])
+def test_daemon_that_cannot_write_to_standard_output_ends(program, level):
+    with open("/dev/full", "wb") as full:
+        status, _, errors = run(program, [*ANYWHERE, "--until-eof", f"--log-level={level}"], stdout=full)
+    assert status == 1
+    assert match(faults(errors), [r'\[ERROR bayeuxd\] cannot serve error=".+"', CANNOT_LISTEN]), errors
+
+
+def test_version_is_the_one_of_the_repository(program):
+    for flag in ("--version", "-V"):
+        assert run(program, [flag]) == (0, f"bayeuxd {read('VERSION').strip()}\n", "")
+
+
+# Defaults in the help that the page states in other words. A flag that is off has none, unless it has an argument.
+HELP_DEFAULTS = {"off": "none", "one per processor": "one for each processor", "1048576": "1m"}
+# What the help and the page both say of a flag.
+PHRASES = {
+    **{"listen": "host name or IP address with a port", "readers": "also listen at ADDRESS", "readers-publish": "that PATTERN matches"},
+    **{"shards": "divide the sessions among N shards", "seed-file": "64 hexadecimal digits", "timeout": "hold a connect"},
+    **{"interval": "advise clients to wait for TIME between two connects", "max-interval": "accepted message", "bytes": "at most N bytes"},
+    **{"sessions": "live", "patterns": "patterns", "limit": "events", "body": "body or query", "ride": "waiting events with"},
+    **{"anonymous": "accept publishes without a", "no-callback-polling": "accept only POSTs of application/json", "metrics": "serve metrics"},
+    **{"connections": "N connections", "record": "record every", "record-answers": "record the SHA-256 of each answer"},
+    **{"until-eof": "standard input", "log": "write the log as text", "log-level": "log only errors (error)"},
+}
+# Words that turn a sentence into its opposite.
+OPPOSITES = {"unless", "except"}
+
+
+def test_help_has_the_documented_flags(program):
+    status, text, errors = run(program, ["--help"])
+    assert (status, errors) == (0, "")
+    assert run(program, ["-h"]) == (0, text, "")
+    assert text.splitlines()[:3] == ["Serve Bayeux over HTTP", "", "Usage: bayeuxd [OPTIONS]"]
+    rows = re.findall(r"^ +(?:-\w, )?--([a-z-]+)(?: <([A-Z]+)>)? +(\S.*)$", text, re.MULTILINE)
+    assert sorted(name for name, _, _ in rows) == sorted([*FLAGS, "help", "version"])
+    for name, argument, help_text in rows[:-2]:
+        wanted, default, greatest, words = FLAGS[name]
+        default = HELP_DEFAULTS.get(default, default) if wanted and name not in REPEATED else None
+        shown, limits = re.search(r" \[default: ([^\]]*)\]$", help_text), re.search(r"\b1 to (\w+)", help_text)
+        assert (argument, shown and shown[1]) == (wanted, default), f"--{name}"
+        assert limits is None or limits[1].replace("1m", str(1 << 20)) == greatest, f"--{name}"
+        assert limits or not greatest or name == "bytes", f"--{name} has no range"
+        assert all(PHRASES[name].lower() in it.lower() for it in (help_text, words)), f"--{name}"
+        assert OPPOSITES & set(help_text.split()) <= set(words.split()), f"--{name}"
+
+
+# The value of each flag with one, all settings in the log, except those for files, and the first line of the record.
+ALL_FLAGS = [
+    *(("--listen", "127.0.0.1:0"), ("--readers", "localhost:0"), ("--metrics", "127.0.0.1:0")),
+    *(("--readers-publish", "/a"), ("--readers-publish", "/b/*"), ("--log", "json"), ("--log-level", "info")),
+    *(("--shards", "2"), ("--timeout", "7s"), ("--interval", "2s"), ("--max-interval", "601s"), ("--limit", "3"), ("--bytes", "500")),
+    *(("--patterns", "4"), ("--sessions", "5"), ("--body", "6000"), ("--connections", "5")),
+]
+ALL_LOGGED = {
+    **{"listen": "127.0.0.1:0", "readers": "localhost:0", "metrics": "127.0.0.1:0", "readers_publish": "/a,/b/*", "shards": "2"},
+    **{"timeout": "7s", "interval": "2s", "max_interval": "601s", "limit": "3", "bytes": "500", "patterns": "4", "sessions": "5"},
+    **{"body": "6000", "connections": "5", "ride": "true", "anonymous": "true", "callback_polling": "false", "record_answers": "true"},
+    "until_eof": "true",
+}
+FIRST_LINE = "shards=2 timeout=7000 interval=2000 max_interval=601000 options=ra bytes=500 sessions=5 patterns=4 limit=3"
+LIMITS = {"events": 3, "bytes": 500, "patterns": 4, "sessions": 5, "body": 6000, "shards": 2}
+
+
+def address_in(text):
+    """Returns the host and the port at the end of `text`."""
+    host, _, port = text.split()[-1].rpartition(":")
+    return host, int(port)
+
+
+def expect_overflows(connection, sessions):
+    """Checks that three of `sessions` overflow: one with too many events, one with too many bytes, and one with too many patterns."""
+    large, small = ({"channel": "/a", "data": it} for it in ("x" * 160, 1))
+    for it in sessions[:2]:
+        subscribe(connection, "/a", it)
+    expect_success(connection.ask([large] * 2), 2)
+    expect_events(poll(connection, sessions[0]), [large] * 2)
+    expect_success(connection.ask([large]), 1)
+    expect_error(poll(connection, sessions[1]), "413::Queue overflow")
+    expect_success(connection.ask([small] * 3), 3)
+    expect_error(poll(connection, sessions[0]), "413::Queue overflow")
+    subscribe(connection, [f"/{number}" for number in range(5)], sessions[2])
+    expect_error(poll(connection, sessions[2]), "413::Queue overflow")
+
+
+def expect_listener(connection, is_reader):
+    """Checks what one listener accepts."""
+    expect_status(connection, post(b"[%s]" % (b" " * 5998)), 200)
+    expect_status(connection, post(b"[%s]" % (b" " * 5999)), 413)
+    expect_status(connection, get(b"?message=[]"), 403, "callback-polling is off")
+    expect_status(connection, post(b"[]", b"text/plain"), 415)
+    for channel, is_allowed in (("/a", True), ("/b/1", True), ("/c", not is_reader)):
+        expect_status(connection, post(json.dumps([{"channel": channel, "data": 1}]).encode()), 200 if is_allowed else 403)
+
+
+def test_each_flag_has_its_effect_with_all_others(daemon, client, tmp_path):
+    record, seed = tmp_path / "record", tmp_path / "seed"
+    seed.write_text(SEED, encoding="ascii")
+    given = [*ALL_FLAGS, ("--seed-file", seed), ("--record", record)]
+    assert {it[2:] for it, _ in given} | {*SWITCHES} == {*FLAGS}, "the flags of docs/CONFIGURE.md"
+    server = daemon(*(f"{name}={value}" for name, value in given), *(f"--{it}" for it in SWITCHES), is_plain=True)
+    readers = address_in(server.process.stdout.readline().decode())
+    lines = [json.loads(it) for it in server.full_log().splitlines()]
+    assert [it["event"] for it in lines][:4] == ["starting", "metrics listening", "recording started", "listening"]
+    assert {name: value for name, value in lines[0].items() if name not in ("time", "level", "event")} == {
+        **ALL_LOGGED,
+        "record": str(record),
+    }
+    server.metrics = address_in(lines[1]["address"])
+    with client(server) as connection, client(readers) as reader:
+        first = expect_success(connection.ask([HANDSHAKE]), 1)[0]
+        assert first["advice"] == {"reconnect": "retry", "interval": 2000, "timeout": 7000}
+        assert first["clientId"] == f"{drawn(SEED, 0)}{1:016x}"
+        session = {"clientId": first["clientId"]}
+        sessions = [open_session(it) for it in (connection, reader, connection, reader)]
+        expect_error(connection.ask([HANDSHAKE]), "503::Too many sessions")
+        for it in (connection, reader):
+            expect_listener(it, it is reader)
+        expect_overflows(connection, sessions)
+        subscribe(connection, "/c", session)
+        publish(connection, "/c", 1, {})
+        expect_events(reader.ask([{"channel": "/a", "data": 1, **session}]), [{"channel": "/c", "data": 1}])
+        server.expect({("bayeux_limit", f'{{name="{name}"}}'): value for name, value in LIMITS.items()})
+    server.close()
+    written = record.read_text(encoding="utf-8").splitlines()
+    assert written[0] == FIRST_LINE
+    assert {"A", "N", "P"} <= {it.split()[0 if it[0] == "A" else 1] for it in written[1:]}, "requests and answers in the record"
+
+
+# A value of each flag with one, except those for files and `--connections`.
+USUAL_VALUES = {
+    **{"listen": "127.0.0.1:0", "readers": "127.0.0.1:0", "readers-publish": "/a", "metrics": "127.0.0.1:0", "shards": "2"},
+    **{"timeout": "30s", "interval": "0", "max-interval": "600s", "bytes": "1m", "sessions": "8", "patterns": "8", "limit": "8"},
+    **{"body": "64k", "log": "text", "log-level": "info"},
+}
+
+
+@pytest.mark.parametrize("has_all", [False, True], ids=["few flags", "all flags"])
+def test_end_of_input_ends_no_daemon_without_the_flag(daemon, client, tmp_path, has_all):
+    (tmp_path / "seed").write_text(SEED, encoding="ascii")
+    values = {**USUAL_VALUES, "record": tmp_path / "record", "seed-file": tmp_path / "seed"}
+    assert sorted([*values, *SWITCHES, "connections"]) == sorted(FLAGS)
+    given = [*(f"--{name}={value}" for name, value in values.items()), *(f"--{it}" for it in SWITCHES if it != "until-eof")]
+    server = daemon(*(given if has_all else [*ANYWHERE, "--metrics", "127.0.0.1:0"]), is_plain=True, stdin=subprocess.DEVNULL)
+    wait_until("ticks after the end of standard input", lambda: server.scrape()[TICKED] > 3)
+    open_session(client(server))
+    assert server.scrape()[REFUSED_TICKS] == 0
+
+
+def test_end_of_input_ends_no_daemon_with_positional_arguments(daemon, client):
+    server = daemon(*ARGUMENTS[:-1], "0", is_plain=True, stdin=subprocess.DEVNULL)
+    # Meanwhile, the daemon has read the end of standard input.
+    for _ in range(100):
+        with client(server) as connection:
+            open_session(connection)
+    server.check_alive()

@@ -1,0 +1,337 @@
+"""Random clients of a daemon that records: what they were answered is what the replay of the record answers.
+
+Each response with status 200 has a digest in the record, which scripts/replay_record compares with the replay: also while the daemon
+runs. Sessions expire, and connects are held, on a virtual clock.
+"""
+import hashlib
+import json
+import random
+import re
+import select
+import stat
+import threading
+import urllib.parse
+
+import pytest
+
+from base import TIMEOUT_SECONDS, has_compiler, limit_file_size, wait_until
+from daemon import CONNECT, FORM, HANDSHAKE, Connection, check_serves, get, post
+from recording import Check, read_record
+from runs import ANYWHERE, run
+
+RUNS = {
+    "shards": ["--shards", "4"],
+    "riding": ["--shards", "3", "--ride", "--anonymous", "--limit", "40", "--bytes", "9000"],
+    "readers": ["--shards", "2", "--readers", "127.0.0.1:0"],
+}
+# The number of clients, of the turns of each, and the most publishes of a request.
+CLIENTS, TURNS, MANY_TURNS, BATCH = 8, 60, 3000, 40
+# How long a connect is held, and how long a session may be silent, in seconds. All connections are ended after 30 seconds without a
+# request, so clients rest only until the clock has `RESTS` seconds.
+EXPIRING, SILENT, RESTS = ["--timeout", "2s", "--max-interval", "3s"], 3, 15.0
+# A mark: the id of the first message of a request. Each request has another one.
+MARK = re.compile(rb"q-[0-9]+-[0-9]+-")
+DATA = ["", "text", "a%41+b&c=d", "\u2028 and \u2029", "\U0001f600 \u00e4", {"n": [1, 2.5e3, None], "more": {"a": 1, "b": "%0A+"}}, "x" * 300]
+REFUSED = [
+    {"channel": "/a b", "data": 1},
+    {"channel": "/meta/unknown"},
+    {"channel": "/r/1", "data": "x", "clientId": "0" * 48},
+    {"channel": "/r/1", "data": "without a client"},
+    {"channel": "/meta/subscribe", "subscription": "/a/**/b"},
+    {"channel": "/meta/handshake", "version": "1.0", "supportedConnectionTypes": ["none\u2028"]},
+]
+# What a connect acknowledges, given the last batch: this batch, nothing, or the one before it.
+ACKNOWLEDGED = [lambda last: last] * 3 + [lambda last: None] * 2 + [lambda last: max(last - 1, 0)]
+CALLBACK = b"a.b[0]"
+
+
+def by_lines(documents):
+    """Returns a POST of `documents` with line ends between members."""
+    return post(documents.replace(b', "', b',\r\n "'))
+
+
+def in_form(documents):
+    """Returns a form with `documents` and an empty document."""
+    return post(b"other=1&message=" + urllib.parse.quote_plus(documents).encode() + b"&message=[]", FORM)
+
+
+def in_query(documents):
+    """Returns a query with `documents` and a callback, or a POST if it would be too long."""
+    query = urllib.parse.quote(documents).encode()
+    return post(documents) if len(query) > 30_000 else get(b"?jsonp=a.b%5B0%5D&message=" + query)
+
+
+WAYS = [post, post, by_lines, in_form, in_query]
+
+
+def digest_of(response):
+    """Returns the digest of the JSON in a response."""
+    body = response.body
+    if body.startswith(CALLBACK):
+        body = body[len(CALLBACK) + 1 : -1]
+        for character, escape in (("\u2028", rb"\u2028"), ("\u2029", rb"\u2029")):
+            body = body.replace(escape, character.encode())
+    return hashlib.sha256(body).digest()
+
+
+class Client(threading.Thread):
+    """A client that makes random requests.
+
+    `listeners`: the addresses of publishers, and maybe of readers. Its connects go to the next listener after the one of its other
+    requests. `seen`: the status, and the digest of the body, of each response by the mark of its request. `finish`: all clients wait
+    at it before their last connects.
+    """
+
+    def __init__(self, number, listeners, clock, finish, turns):
+        super().__init__(daemon=True)
+        self.number, self.address, self.clock, self.finish, self.turns = number, listeners[number % len(listeners)], clock, finish, turns
+        self.connect_address, self.is_reader = listeners[(number + 1) % len(listeners)], self.address != listeners[0]
+        # A silent client gets no events, and rests.
+        self.is_silent, self.random, self.count, self.seen, self.wrong = number % 4 == 0, random.Random(number), 0, {}, None
+        # The mark of the held connect, or `None`.
+        self.held, self.id, self.acknowledged, self.is_unknown = None, "0" * 48, 0, False
+
+    def run(self):
+        try:
+            with Connection(self.address) as self.requests, Connection(self.connect_address) as self.connects:
+                self.work()
+        except Exception as error:  # pylint: disable=broad-exception-caught
+            self.wrong = error
+            self.finish.abort()
+
+    def work(self):
+        """Takes all turns."""
+        self.open()
+        self.repeat()
+        for turn in range(self.turns):
+            if self.is_unknown:
+                self.open()
+            self.random.choice(CHOICES)(self)
+            self.take()
+            if self.is_silent and self.clock.seconds < RESTS * turn / self.turns:
+                self.rest()
+        self.finish.wait(2 * TIMEOUT_SECONDS)
+        # No message follows that could answer these connects, so only ticks do.
+        self.take_held()
+        self.connect()
+        self.take_held()
+
+    def keep(self, mark, response):
+        """Keeps what is needed of the response to the request `mark`, and returns the response."""
+        self.seen[mark.encode()] = response.status, digest_of(response)
+        return response
+
+    def mark(self):
+        """Returns a new id for a message. No other message has it."""
+        self.count += 1
+        return f"q-{self.number}-{self.count}-"
+
+    def ask(self, messages, way=None):
+        """Sends `messages`, and returns the response. `way`: how to send them, by default at random."""
+        mark = self.mark()
+        messages = [{**messages[0], "id": mark}, *messages[1:]]
+        self.requests.renew()
+        self.requests.send((way or self.random.choice(WAYS))(json.dumps(messages, ensure_ascii=False).encode()))
+        response = self.keep(mark, self.requests.response())
+        is_forbidden = self.is_reader and any(not it["channel"].startswith(("/meta/", "/service/")) for it in messages)
+        # A daemon answers with 503 if its window is full.
+        assert response.status in (403 if is_forbidden else 200, 503), messages
+        self.is_unknown = b"402::" in response.body
+        return response
+
+    def open(self, share=0.5):
+        """Opens a session and subscribes. `share`: the probability that the session acknowledges."""
+        ext = {"ext": {"ack": True}} if self.random.random() < share else {}
+        reply = self.ask([{**HANDSHAKE, **ext}], post).items()[-1]
+        self.id, self.acknowledged = reply.get("clientId", self.id), 0
+        channels = self.random.sample(["/r/1", "/r/2", "/r/*", "/r/**", f"/r/{self.number}/x"], 2)
+        channels = ["/unheard"] if self.is_silent else channels
+        self.ask([{"channel": "/meta/subscribe", "subscription": channels, "clientId": self.id}])
+
+    def publish(self):
+        """Sends a request of several publishes."""
+        channel = self.random.choice(["/r/1", "/r/2", f"/r/{self.number}/x", "/quiet", "/service/r", "/quiet"])
+        self.ask([{"channel": channel, "data": self.random.choice(DATA), "clientId": self.id} for _ in range(self.random.randint(1, BATCH))])
+
+    def connect(self):
+        """Sends a connect on the second connection, unless one is held there."""
+        self.take()
+        if self.held:
+            return
+        self.held = self.mark()
+        message = {**CONNECT, "clientId": self.id, "id": self.held}
+        acknowledged = self.random.choice(ACKNOWLEDGED)(self.acknowledged)
+        if acknowledged is not None:
+            message["ext"] = {"ack": acknowledged}
+        if self.random.random() < 0.3:
+            message["advice"] = {"timeout": 0}
+        self.connects.renew()
+        self.connects.send(self.random.choice(WAYS)(json.dumps([message]).encode()))
+
+    def take(self, seconds=0.0):
+        """Reads the response to the held connect, if it arrives within `seconds` seconds."""
+        if not self.held or not select.select([self.connects.socket], [], [], seconds)[0]:
+            return
+        response, self.held = self.keep(self.held, self.connects.response()), None
+        if response.status == 200 and not response.body.startswith(CALLBACK):
+            self.acknowledged = response.items()[-1].get("ext", {}).get("ack", self.acknowledged)
+
+    def take_held(self):
+        """Puts the clock forward until the held connect has its response."""
+        while self.held:
+            self.clock.tick()
+            self.take(0.05)
+
+    def rest(self):
+        """Lets the session expire."""
+        self.take_held()
+        self.clock.tick(10 * SILENT + 5)
+
+    def repeat(self):
+        """Gets a batch, acknowledges nothing, and so gets the batch again."""
+        if self.is_silent:
+            return
+        self.open(share=1.0)
+        channel, session = f"/r/{self.number}/again", {"clientId": self.id}
+        self.ask([{"channel": "/meta/subscribe", "subscription": channel, **session}, {"channel": channel, "data": "again", **session}])
+        for members in ({"ext": {"ack": 0}}, {}, {}):
+            self.ask([{"channel": "/meta/connect", "advice": {"timeout": 0}, **session, **members}])
+
+    def refuse(self):
+        """Sends a message that is rejected."""
+        self.ask([self.random.choice(REFUSED)])
+
+    def refuse_whole(self):
+        """Sends a request that is rejected as a whole."""
+        mark = self.mark()
+        self.requests.renew()
+        self.requests.send(post(b'[{"channel":"/a","data":1,"id":"%s"},' % mark.encode()))
+        self.keep(mark, self.requests.response())
+
+    def ask_nothing(self):
+        """Sends a request without messages."""
+        self.requests.renew()
+        self.requests.send(post(b"[]"))
+        assert self.requests.response().body == b"[]"
+
+    def leave(self):
+        """Sometimes ends the session, and sometimes opens another one."""
+        if self.random.random() < 0.3:
+            self.ask([{"channel": "/meta/disconnect", "clientId": self.id}])
+        if self.random.random() < 0.5:
+            self.open()
+
+    def cut(self):
+        """Sends all or most of a publish on a new connection, and closes it before the response."""
+        data = post(json.dumps([{"channel": "/r/1", "data": "cut", "clientId": self.id, "id": self.mark()}]).encode())
+        with Connection(self.address) as connection:
+            connection.send(data[: self.random.choice([len(data) - 9, len(data)])])
+
+
+CHOICES = [Client.publish] * 6 + [Client.connect] * 4
+CHOICES += [Client.refuse, Client.refuse_whole, Client.ask_nothing, Client.leave, Client.cut, Client.repeat]
+
+
+@pytest.fixture(scope="module", autouse=True)
+def can_record(skip):
+    """Skips these tests, which the gate requires, if the clock cannot be made."""
+    if not has_compiler():
+        skip("daemon", "there is no C compiler")
+
+
+def check_responses(path, clients):
+    """Checks the record against what the clients got, and returns how many of their responses have a digest there.
+
+    Each response with status 200 must have the right one. A request that was rejected must not be in the record, except that the
+    daemon may answer a recorded one with 503.
+    """
+    requests, digests, _ = read_record(path)
+    places = {found.group(): place for place, line in requests if (found := MARK.search(line))}
+    seen = {mark: it for client in clients for mark, it in client.seen.items()}
+    for mark, (status, digest) in seen.items():
+        if status == 200:
+            assert digests.get(places[mark]) == digest, mark
+        else:
+            assert status == 503 or mark not in places, mark
+    return sum(status == 200 for status, _ in seen.values())
+
+
+@pytest.mark.timeout(900)
+@pytest.mark.parametrize("turns", [TURNS, pytest.param(MANY_TURNS, marks=pytest.mark.soak)])
+@pytest.mark.parametrize("flags", RUNS.values(), ids=RUNS)
+def test_responses_are_those_of_the_replay(daemon, ticks, tmp_path, replay_program, flags, turns):
+    path = tmp_path / "record"
+    server = daemon("--record", str(path), "--record-answers", *EXPIRING, *flags, env=ticks.env)
+    assert stat.S_IMODE(path.stat().st_mode) == 0o600, "not its owner's alone"
+    listeners = [server.address, *([server.readers] if "--readers" in flags else [])]
+    finish = threading.Barrier(CLIENTS)
+    clients = [Client(number, listeners, ticks, finish, turns) for number in range(CLIENTS)]
+    with Check(replay_program, path, "--follow") as follows:
+        for it in clients:
+            it.start()
+        for it in clients:
+            it.join()
+        assert [it.wrong for it in clients] == [None] * CLIENTS
+        server.process.stdin.close()
+        server.let_end(ticks)
+        follows.interrupt()
+    assert f"recording complete bytes={path.stat().st_size}" in server.logged()
+    compared = check_responses(path, clients)
+    assert compared >= sum(it.count for it in clients) / 3
+    with Check(replay_program, path) as check:
+        assert check.end() >= compared
+
+
+def test_record_of_a_file_that_exists_is_not_made(program, tmp_path):
+    path = tmp_path / "record"
+    path.write_bytes(b"kept")
+    status, _, errors = run(program, [*ANYWHERE, "--record", str(path)])
+    assert status == 1 and f"bayeuxd: cannot create the record at {path}: " in errors
+    assert path.read_bytes() == b"kept"
+
+
+@pytest.fixture
+def recording(daemon, tmp_path):
+    """Starts a daemon with a record that has an answer: `recording(**how)`."""
+
+    def start(**how):
+        path = tmp_path / "record"
+        server = daemon("--record", str(path), "--record-answers", **how)
+        check_serves(server.address, "/before")
+        wait_until("an answer is in the record", lambda: read_record(path)[1])
+        return server, path
+
+    return start
+
+
+def check_end(server, path, replay):
+    """Checks that a daemon serves after the end of its record, and that the answers before are right."""
+    check_serves(server.address, "/after")
+    server.close()
+    with Check(replay, path) as check:
+        assert check.end() > 0
+
+
+def test_daemon_whose_record_is_full_serves_on(recording, replay_program):
+    size = 50_000
+    server, path = recording(preexec_fn=lambda: limit_file_size(size))
+
+    def is_full():
+        check_serves(server.address, "/full/" + "x" * 200)
+        return any(re.match(f"recording ended early bytes={size} reason=", it) for it in server.logged())
+
+    wait_until("the record is full", is_full, pause=0)
+    check_end(server, path, replay_program)
+    assert path.stat().st_size == size
+
+
+def test_record_ends_before_a_request_that_is_too_large_for_a_line(recording, client, replay_program):
+    """The request has a line end, so the record would have it as a form, in which each of its characters takes six bytes."""
+    server, path = recording()
+    connection = client(server)
+    connection.send(post(b'[\n{"channel":"/large","data":"%s"}]' % ("\u00e4" * 200_000).encode()))
+    connection.response().items()
+    found = server.wait_for_log(r'recording ended early bytes=([0-9]+) place=([0-9]+) reason="a request is too large for a record line')
+    check_end(server, path, replay_program)
+    assert tuple(map(int, found.groups())) == (path.stat().st_size, read_record(path)[2])
+    assert b"%C3%A4%C3%A4" not in path.read_bytes()

@@ -1,0 +1,229 @@
+"""Sessions and their events: handshakes, publishes, limits, replies with events, and client ids."""
+import itertools
+import json
+
+import pytest
+
+from chacha import drawn
+from daemon import AT_ONCE, CONNECT, FORM, HANDSHAKE, MOST_MESSAGES, SEED, by_callback, by_form, check_serves, close_all, expect_error
+from daemon import expect_events, expect_status, expect_success, get, hold_connect, open_many, open_session, poll, post, post_coded, publish
+from daemon import send_connect, subscribe
+from metrics import CONNECTS_HELD, FILED, REQUESTS_HELD, SESSIONS, read_list
+
+CHANNEL = "/loopback"
+# Positional arguments, which have no names.
+ARGUMENTS = ["127.0.0.1:0", "2", "30000", "0", "600000", SEED]
+# The most bytes of a body.
+LIMIT = 1 << 20
+# The most sessions that may live, and the most of them that a list shows.
+MOST, MOST_LISTED = 65_536, 1000
+# How often work is measured. Other processes can only make it slower.
+ROUNDS = 5
+
+
+def test_event_reaches_a_waiting_client(daemon, client):
+    """With positional arguments. tests/daemon/test_flags.py tests what each flag changes."""
+    server = daemon(*ARGUMENTS, "2", is_plain=True)
+    first, second = client(server), client(server)
+    client_id = expect_success(first.ask([HANDSHAKE]), 1)[0]["clientId"]
+    assert client_id == f"{drawn(SEED, 0)}{1:016x}", "not the first client id of the seed"
+    session = {"clientId": client_id}
+    subscribe(first, CHANNEL, session)
+    send_connect(first, session)
+    publish(second, CHANNEL, 7, session)
+    expect_events(first.response().items(), [{"channel": CHANNEL, "data": 7}])
+    assert expect_status(second, get(b"?jsonp=called&message=[]"), 200) == b"called([])"
+    expect_error(second.ask([{"channel": CHANNEL, "data": 8}]), "401::No client id")
+    for it in (first, second):
+        it.socket.close()
+    server.expect_end()
+
+
+def test_connect_gets_all_events_of_a_full_request(daemon, client):
+    connection = client(daemon())
+    session = open_session(connection)
+    subscribe(connection, CHANNEL, session)
+    events = [{"channel": CHANNEL, "data": data} for data in range(MOST_MESSAGES)]
+    expect_success(connection.ask([{**event, **session} for event in events]), MOST_MESSAGES)
+    expect_events(poll(connection, session), events)
+
+
+def test_connect_gets_five_events_of_a_megabyte(daemon, client):
+    connection = client(daemon())
+    session, data = open_session(connection), [str(number) * 1_000_000 for number in range(5)]
+    subscribe(connection, "/large", session)
+    for it in data:
+        publish(connection, "/large", it, session)
+    items = connection.ask([{**CONNECT, **session}])
+    assert [it.get("data") for it in items] == [*data, None]
+
+
+def test_hundred_held_connects_of_a_shard_get_one_event(daemon, client, ticks):
+    """No connect may wait for a timer or a tick, which do not happen here. Megabytes of standard input mean nothing."""
+    server = daemon("--shards", "1", env=ticks.env)
+    publisher = client(server)
+    server.process.stdin.write(b"not the end\n" * ((16 << 20) // 12))
+    server.process.stdin.flush()
+    session = open_session(publisher)
+    held = [hold_connect(server.address, "/many") for _ in range(100)]
+    server.expect({CONNECTS_HELD: len(held)}, pause=ticks.tick)
+    publish(publisher, "/many", 1, session)
+    for connection in held:
+        expect_events(connection.response().items(), [{"channel": "/many", "data": 1}])
+        connection.socket.close()
+    server.expect({FILED: 0}, pause=ticks.tick)
+
+
+def test_session_is_the_same_at_both_listeners(daemon, client):
+    server = daemon("--readers", "127.0.0.1:0")
+    main, readers, publisher = client(server), client(server.readers), client(server)
+    for own, other in ((main, readers), (readers, main)):
+        session, others = open_session(own), open_session(other)
+        subscribe(other, "/doors", session)
+        send_connect(other, session)
+        server.expect({REQUESTS_HELD: 1})
+        publish(publisher, "/doors", 1, others)
+        expect_events(other.response().items(), [{"channel": "/doors", "data": 1}])
+        send_connect(other, session)
+        server.expect({REQUESTS_HELD: 1})
+        expect_success(own.ask([{"channel": "/meta/disconnect", **session}]), 1)
+        expect_success(other.response().items(), 1)
+        expect_error(other.ask([{**CONNECT, **session}]), "402::Unknown client")
+    # Each of the two opened two sessions, and ended one.
+    server.expect({("bayeux_sessions_opened_total", ""): 4, SESSIONS: 2})
+
+
+def test_next_client_is_served_after_thousands_of_sessions(daemon, client, is_short):
+    server = daemon("--shards", "1")
+    connection = client(server)
+    for _ in range(0, 1000 if is_short else 20_000, AT_ONCE):
+        close_all(connection, open_many(connection, AT_ONCE))
+    check_serves(server.address, "/right")
+
+
+def work_seconds(server, connection, session):
+    """Returns the least processor times for lists of sessions, full requests, and new sessions, in seconds."""
+
+    def replace():
+        connection.ask([{"channel": "/meta/disconnect", **open_session(connection)}])
+
+    request, times = [{"channel": "/nobody", "data": 0, **session}] * MOST_MESSAGES, []
+    for act, count in ((lambda: read_list(server.metrics, b"/sessions"), 40), (lambda: connection.ask(request), 40), (replace, 800)):
+        connection.renew()
+        spent = []
+        for _ in range(ROUNDS):
+            before = server.run_seconds()
+            for _ in range(count):
+                act()
+            spent.append(server.run_seconds() - before)
+        times.append(min(spent))
+    return times
+
+
+def expect_limit_of_sessions(server, connection, count):
+    """Checks that the last of `count` sessions can be opened and gets an event, and that no further one can."""
+    connection.renew()
+    session = open_session(connection)
+    subscribe(connection, "/most", session)
+    expect_error(connection.ask([HANDSHAKE]), "503::Too many sessions")
+    server.expect({SESSIONS: count})
+    assert read_list(server.metrics, b"/channels") == [{"pattern": "/most", "subscriptions": 1}]
+    publish(connection, "/most", 1, session)
+    expect_events(poll(connection, session), [{"channel": "/most", "data": 1}])
+
+
+def test_as_many_sessions_live_as_the_flag_says(daemon, client):
+    server = daemon("--sessions", "1000")
+    connection = client(server)
+    open_many(connection, 999)
+    expect_limit_of_sessions(server, connection, 1000)
+
+
+@pytest.mark.proved
+@pytest.mark.alone
+def test_work_of_the_most_sessions_costs_no_more_than_with_a_thousand(daemon, client):
+    """It may take twice as much processor time."""
+    server, other = daemon("--sessions", str(MOST)), daemon()
+    connection, small = client(server), client(other)
+    session, known = open_session(connection), open_session(small)
+    open_many(connection, MOST - 2)
+    open_many(small, MOST_LISTED - 2)
+    few, many = work_seconds(other, small, known), work_seconds(server, connection, session)
+    assert all(found <= 2 * least for found, least in zip(many, few)), f"{many} seconds, and {few} with a thousand"
+    expect_limit_of_sessions(server, connection, MOST)
+
+
+# The ways to send a document, and the texts around the JSON in the response.
+WAYS = [(post, b"", b""), (by_form, b"", b""), (by_callback, b"called(", b")")]
+# Requests without a valid message, their statuses, and whether they reach the hub.
+REQUESTS = [
+    (get(b"?message=[]", b"/cometdx"), 404, False),
+    (get(b"?message=[]", b"/"), 404, False),
+    (b"PUT /cometd HTTP/1.1\r\nhost: h\r\ncontent-length: 0\r\n\r\n", 405, False),
+    (b"DELETE /cometd/handshake HTTP/1.1\r\nhost: h\r\n\r\n", 405, False),
+    (get(b""), 400, False),
+    (get(b"?jsonp=called"), 400, False),
+    (get(b"?message=[]&jsonp=a(b"), 400, False),
+    (post(b"other=[]", FORM), 400, False),
+    (post(b"["), 400, True),
+    (post(b"message=[1]", FORM), 400, True),
+    (get(b"?message={}"), 400, True),
+    (post(b"[]"), 200, True),
+    (post(b"[]", path=b"/cometd/handshake"), 200, True),
+    (post(b"message=[]&other=1&message=[]", FORM, b"/cometd/x"), 200, True),
+    (post_coded([b" chunked"], body=b"[%s]" % (b" " * (LIMIT - 2))), 200, True),
+]
+
+
+@pytest.fixture
+def seed_file(tmp_path):
+    """The path of a file with `SEED`."""
+    path = tmp_path / "seed"
+    path.write_text(f"{SEED.upper()}\n", encoding="ascii")
+    return path
+
+
+def expect_id(connection, way, number, place):
+    """Checks the client id of a handshake. `way`: one of `WAYS`. `number`: the session's. `place`: the number of the nonce."""
+    request, prefix, suffix = way
+    body = expect_status(connection, request(json.dumps([HANDSHAKE]).encode()), 200)
+    assert body.startswith(prefix) and body.endswith(suffix)
+    found = expect_success(json.loads(body[len(prefix) : len(body) - len(suffix)]), 1)[0]["clientId"]
+    assert found == f"{drawn(SEED, place)}{number:016x}", f"drawn at {place}"
+
+
+def test_requests_that_reach_the_hub_take_a_nonce(daemon, client, seed_file):
+    """Client ids are those that ChaCha20 gives for the seed."""
+    server = daemon("--connections", "3", "--seed-file", str(seed_file))
+    connection, declared, chunked = client(server), client(server), client(server)
+    places, numbers, ways = itertools.count(), itertools.count(1), itertools.cycle(WAYS)
+    for request, status, reaches_hub in REQUESTS:
+        expect_id(connection, next(ways), next(numbers), next(places))
+        assert expect_status(connection, request, status) in (b"[]", b"")
+        if reaches_hub:
+            next(places)
+    # A body that is too long ends the connection.
+    expect_status(declared, b"POST /cometd HTTP/1.1\r\nhost: h\r\ncontent-length: %d\r\n\r\n" % (LIMIT + 1), 413)
+    expect_status(chunked, post_coded([b" chunked"], body=b"[%s]" % (b" " * (LIMIT - 1))), 413)
+    for way in reversed(WAYS):
+        expect_id(connection, way, next(numbers), next(places))
+    for it in (connection, declared, chunked):
+        it.socket.close()
+    server.expect_end()
+
+
+@pytest.mark.parametrize("order", ["main", "readers", "main readers", "readers main", "readers readers", "readers main readers main"])
+def test_listeners_share_nonces_and_the_limit_of_connections(daemon, client, seed_file, order):
+    order = order.split()
+    server = daemon("--connections", str(len(order)), "--readers", "localhost:0", "--seed-file", str(seed_file))
+    connections = [client(server.readers if it == "readers" else server) for it in order]
+    for place, (connection, way) in enumerate(zip(connections, itertools.cycle([WAYS[0], WAYS[2], WAYS[1]]))):
+        expect_id(connection, way, place + 1, place)
+    for it in connections:
+        it.socket.close()
+    server.expect_end()
+
+
+def test_daemons_without_a_seed_draw_different_ids(daemon, client):
+    first, second = (open_session(client(daemon())) for _ in range(2))
+    assert first != second

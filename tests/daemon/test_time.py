@@ -1,0 +1,191 @@
+"""What a daemon does as time passes: ticks, answers that nobody takes, ages, holds, expiry, and moments after fifty days."""
+import time
+
+import pytest
+
+from base import wait_until
+from daemon import OWN_PAGES, expect_error, expect_events, expect_success, hold_connect, open_session, poll, publish, send_connect, subscribe
+from metrics import CONNECTS_HELD, FILED, OPEN, REQUESTS_HELD, SESSIONS, SWEPT, TICKED, UPTIME, read_list
+
+CHANNEL = "/time"
+# The number of sessions and of shards.
+LIVE, SHARDS = 17, 16
+# After how many ticks an answer that nobody takes is dropped: a second if there are more than --sessions, otherwise a minute.
+CROWDED, KEPT = 10, 600
+# The number of answers of a megabyte each.
+LARGE = 32
+# How far the clocks are put forward, in seconds: fifty days, which are more than 2^32 milliseconds. By how many seconds an age or an
+# uptime may differ on a slow machine.
+AHEAD, AGES = 50 * 86_400, 3600
+
+
+def leave_answers(server, client, sessions, ticks, events=(("/all", 1),)):
+    """Leaves an answer that nobody takes for each of `sessions`.
+
+    Their connects are held, their connections close, and then `events`, pairs of a channel and data, answer the connects. Returns the
+    number of ticks before these.
+    """
+    server.expect({OPEN: 0}, pause=ticks.tick)
+    connections = [client(server) for _ in sessions]
+    for it in zip(connections, sessions):
+        send_connect(*it)
+    server.expect({REQUESTS_HELD: len(sessions), CONNECTS_HELD: len(sessions)}, pause=ticks.tick)
+    for connection in connections:
+        connection.socket.close()
+    before = server.expect({OPEN: 0, REQUESTS_HELD: 0, CONNECTS_HELD: len(sessions)}, pause=ticks.tick)[TICKED]
+    with client(server) as connection:
+        for event in events:
+            publish(connection, *event, sessions[0])
+    server.expect({CONNECTS_HELD: 0}, pause=ticks.tick)
+    return before
+
+
+def open_subscribed(server, client, count):
+    """Opens `count` sessions that are subscribed to /all."""
+    with client(server) as connection:
+        sessions = [open_session(connection) for _ in range(count)]
+        for session in sessions:
+            subscribe(connection, "/all", session)
+    return sessions
+
+
+def test_older_ones_of_too_many_answers_are_dropped_within_a_second(daemon, client, ticks):
+    """In each of 16 shards. No newer answer is dropped. As many answers as sessions are not too many."""
+    server = daemon("--shards", str(SHARDS), "--sessions", str(LIVE), env=ticks.env)
+    sessions = open_subscribed(server, client, LIVE)
+    # If there are too many answers, the daemon keeps each for fewer ticks than this.
+    ticks.tick(15)
+    leave_answers(server, client, sessions, ticks)
+    server.expect({FILED: LIVE}, pause=ticks.tick)
+    for turn in range(1, 4):
+        # The answers of the turn before are as old as those that are dropped may be.
+        ticks.tick(5)
+        began = leave_answers(server, client, sessions, ticks)
+        dropped = server.expect({FILED: LIVE, SWEPT: turn * LIVE}, pause=ticks.tick)[TICKED]
+        assert dropped - began <= CROWDED + 5
+        ticks.tick(5)
+        assert server.scrape()[FILED] == LIVE, "a newer answer was dropped"
+    ticks.tick(15)
+    assert server.scrape()[FILED] == LIVE, "as many answers as sessions"
+
+
+def test_answer_that_nobody_takes_is_kept_for_a_minute(daemon, client, ticks):
+    """Then it is dropped, with the next tick. The uptime and the age of the session are those of the clock."""
+    server = daemon("--shards", "1", "--sessions", "1", env=ticks.env)
+    (session,) = open_subscribed(server, client, 1)
+    begun = ticks.seconds
+    leave_answers(server, client, [session], ticks)
+    first = server.expect({FILED: 1}, pause=ticks.tick)[TICKED]
+    ticks.tick(KEPT - 10)
+    assert server.scrape()[FILED] == 1, "dropped too early"
+    assert server.expect({FILED: 0, SWEPT: 1}, pause=ticks.tick)[TICKED] <= first + KEPT + 2
+    assert server.scrape()[UPTIME] == int(ticks.seconds)
+    (listed,) = read_list(server.metrics, b"/sessions")
+    assert int(ticks.seconds - begun) - 1 <= listed["age_seconds"] <= ticks.seconds
+    # The daemon is no longer new. Now the older one of two answers is one too many.
+    for _ in range(2):
+        began = leave_answers(server, client, [session], ticks)
+    assert server.expect({FILED: 1, SWEPT: 2}, pause=ticks.tick)[TICKED] - began <= CROWDED + 5
+    ticks.tick(5)
+    assert server.scrape()[FILED] == 1
+
+
+def test_memory_of_dropped_answers_is_used_again(daemon, client, ticks):
+    server = daemon("--shards", "4", env={**ticks.env, **OWN_PAGES})
+    sessions, events = open_subscribed(server, client, LARGE), [(f"/large/{it}", "x" * 1_000_000) for it in range(LARGE)]
+    with client(server) as connection:
+        for session, (channel, _) in zip(sessions, events):
+            subscribe(connection, channel, session)
+    before, taken = server.kilobytes(), []
+    for _ in range(2):
+        leave_answers(server, client, sessions, ticks, events)
+        server.expect({FILED: LARGE}, pause=ticks.tick)
+        # Then the window has dropped the events.
+        ticks.tick(10)
+        taken.append(server.kilobytes() - before)
+        ticks.tick(KEPT)
+        server.expect({FILED: 0}, pause=ticks.tick)
+    assert taken[0] * 1024 >= LARGE * 1_000_000, "the answers are not kept"
+    assert taken[1] <= 1.5 * taken[0]
+
+
+def test_connect_is_held_for_the_timeout(daemon, client, ticks):
+    server = daemon("--timeout", "2000ms", env=ticks.env)
+    connection = client(server)
+    session = open_session(connection)
+    send_connect(connection, session)
+    server.expect({CONNECTS_HELD: 1}, pause=ticks.tick)
+    ticks.add(1.5)
+    ticks.tick(2)
+    assert server.scrape()[CONNECTS_HELD] == 1
+    ticks.tick(8)
+    assert server.scrape()[CONNECTS_HELD] == 0
+    expect_success(connection.response().items(), 1)
+
+
+def test_silent_session_expires_after_the_interval(daemon, client, ticks):
+    """A rejected message does not keep it alive. An accepted one does."""
+    server = daemon("--max-interval", "6s", env=ticks.env)
+    connection = client(server)
+    session = open_session(connection)
+    ticks.tick(50)
+    expect_success(connection.ask([{"channel": CHANNEL, "data": 1, **session}]), 1)
+    ticks.tick(50)
+    assert connection.ask([{"channel": "no", "data": 1, **session}])[0]["error"].startswith("400::")
+    ticks.tick(8)
+    assert server.scrape()[SESSIONS] == 1
+    ticks.tick(5)
+    assert server.scrape()[SESSIONS] == 0
+    expect_error(connection.ask([{"channel": CHANNEL, "data": 1, **session}]), "402::Unknown client")
+
+
+def moments_of(record):
+    """Returns the moments of the lines of a record, in milliseconds."""
+    return [int(it.partition(b" ")[0]) for it in record.read_bytes().splitlines()[1:]]
+
+
+def test_moments_have_more_than_32_bits_after_fifty_days(daemon, client, clock_ahead, tmp_path):
+    """Connects are held and get events, and the record, the uptime and the ages of sessions are right."""
+    record = tmp_path / "record"
+    server = daemon("--shards", "2", "--record", str(record), env=clock_ahead.env)
+    with client(server) as connection:
+        old = open_session(connection)
+    clock_ahead.add(AHEAD)
+    first = wait_until("a tick", lambda: server.scrape()[UPTIME] >= AHEAD and server.scrape()[TICKED])
+    wait_until("more ticks", lambda: server.scrape()[TICKED] >= first + 3)
+    connection = client(server)
+    expect_error(poll(connection, old), "402::Unknown client")
+    session = open_session(connection)
+    held = [hold_connect(server.address, "/days") for _ in range(4)]
+    server.expect({CONNECTS_HELD: len(held)})
+    ticked = server.scrape()[TICKED]
+    wait_until("ticks meanwhile", lambda: server.scrape()[TICKED] >= ticked + 3)
+    server.expect({CONNECTS_HELD: len(held), SESSIONS: len(held) + 1})
+    publish(connection, "/days", 1, session)
+    for it in held:
+        expect_events(it.response().items(), [{"channel": "/days", "data": 1}])
+        it.socket.close()
+    ages, uptime = [it["age_seconds"] for it in read_list(server.metrics, b"/sessions")], server.scrape()[UPTIME]
+    connection.socket.close()
+    server.close()
+    assert len(ages) == len(held) + 1 and max(ages) <= AGES
+    assert AHEAD <= uptime <= AHEAD + AGES
+    moments = moments_of(record)
+    early = [it for it in moments if it <= 1000 * AGES]
+    late = [it for it in moments if 1000 * AHEAD <= it <= 1000 * (AHEAD + AGES)]
+    assert early and len(late) >= 6 and moments == early + late
+
+
+@pytest.mark.alone
+def test_ticks_are_a_tenth_of_a_second_apart(daemon, tmp_path):
+    """In real time: a busy machine has longer pauses, but rarely only those."""
+    record = tmp_path / "record"
+    server = daemon("--record", str(record))
+    wait_until("twenty ticks", lambda: server.scrape()[TICKED] >= 20)
+    begun, page = time.monotonic(), server.scrape()
+    server.close()
+    more = 10 * (time.monotonic() - begun) + 1
+    moments = [int(it.partition(b" ")[0]) for it in record.read_bytes().splitlines() if it.endswith(b" T")]
+    assert 100 <= min(later - earlier for earlier, later in zip(moments, moments[1:])) < 115
+    assert page[TICKED] <= len(moments) <= page[TICKED] + more
+    assert 1 <= page[UPTIME] <= moments[-1] // 1000

@@ -1,0 +1,103 @@
+"""The documented requests of CometD's JavaScript client get the answers that it needs, directly and behind nginx."""
+import json
+import threading
+
+import pytest
+from base import wait_until
+from bayeuxd import Bayeuxd
+from nginx import Nginx
+
+TYPES = ["websocket", "long-polling", "callback-polling"]
+HANDSHAKE = {"version": "1.0", "minimumVersion": "1.0", "supportedConnectionTypes": TYPES, "advice": {"timeout": 60000, "interval": 0}}
+
+
+class CometD:
+    """The requests of CometD's JavaScript client, as https://docs.cometd.org describes them.
+
+    It appends the type of a handshake, connect or disconnect to the server's address, and "/" otherwise.
+    """
+
+    def __init__(self, origin: Nginx):
+        self.origin, self.client_id, self.count = origin, "", 0
+
+    def message(self, channel: str, **members) -> dict:
+        """Returns a message with the next number as its id, which is a string, and the client id."""
+        self.count += 1
+        return {"id": str(self.count), "channel": channel, **members, **({"clientId": self.client_id} if self.client_id else {})}
+
+    def send(self, path: str, *messages: dict) -> tuple[list, dict]:
+        """Sends messages to `path` below /cometd. Returns the channels and the data of the events, and the replies by their ids."""
+        response = self.origin.ask(f"/cometd{path}", body=json.dumps(messages), Content_Type="application/json;charset=UTF-8")
+        assert response.status == 200
+        items = json.loads(response.text)
+        replies = {it["id"]: it for it in items if "successful" in it}
+        assert list(replies) == [it["id"] for it in messages]
+        return [(it["channel"], it["data"]) for it in items if "successful" not in it], replies
+
+    def ask(self, path: str, channel: str, **members) -> tuple[list, dict]:
+        """Sends one message. Returns the events and the reply, which must be successful and have its channel."""
+        message = self.message(channel, **members)
+        events, replies = self.send(path, message)
+        reply = replies[message["id"]]
+        assert (reply["channel"], reply["successful"]) == (channel, True)
+        return events, reply
+
+    def connect(self, ack: int, **members) -> tuple[list, dict]:
+        """Sends a connect."""
+        return self.ask("/connect", "/meta/connect", connectionType="long-polling", ext={"ack": ack}, **members)
+
+    def connect_during(self, ack: int, server: Bayeuxd, action) -> tuple[list, dict]:
+        """Sends a connect, calls `action` while it is held, and returns what `connect` does."""
+        message = self.message("/meta/connect", connectionType="long-polling", ext={"ack": ack})
+        results: list = []
+        thread = threading.Thread(target=lambda: results.extend(self.send("/connect", message)))
+
+        def held():
+            return server.scrape()["bayeux_connects_held", ""]
+
+        # The metric is that of the last tick, so it may still count an earlier connect.
+        wait_until("no connect is held", lambda: held() == 0)
+        thread.start()
+        try:
+            wait_until("a connect is held", lambda: held() == 1 or not thread.is_alive())
+            action()
+        finally:
+            thread.join()
+        assert results, "the held connect got no response"
+        return results[0], results[1][message["id"]]
+
+
+@pytest.fixture(params=["directly", "nginx"])
+def daemon_and_client(request, server) -> tuple[Bayeuxd, CometD]:
+    """A daemon, and CometD's client in front of it."""
+    found = server()
+    if request.param == "nginx":
+        return found, CometD(request.getfixturevalue("site")(found))
+    return found, CometD(Nginx("http://%s:%d" % found.address, [], ""))
+
+
+def test_session_of_cometds_client(daemon_and_client: tuple[Bayeuxd, CometD]) -> None:
+    server, client = daemon_and_client
+    _, reply = client.ask("/handshake", "/meta/handshake", ext={"ack": True}, **HANDSHAKE)
+    assert reply["supportedConnectionTypes"] == TYPES[1:]
+    assert (reply["version"], reply["ext"], reply["advice"]["reconnect"]) == ("1.0", {"ack": True}, "retry")
+    client.client_id = reply["clientId"]
+    # The first connect is not held.
+    _, reply = client.connect(-1, advice={"timeout": 0})
+    batch = [client.message("/meta/subscribe", subscription=it) for it in ("/a/*", "/b")]
+    batch += [client.message("/a/x", data={"n": number}) for number in range(3)]
+    batch += [client.message("/meta/unsubscribe", subscription="/b")]
+    events, replies = client.send("/", *batch)
+    assert [(it["channel"], it["successful"]) for it in replies.values()] == [(it["channel"], True) for it in batch]
+    # The events are in the response to the batch, or in that to the next connect.
+    more, reply = client.connect(reply["ext"]["ack"])
+    assert [*events, *more] == [("/a/x", {"n": number}) for number in range(3)]
+    # A held connect gets an event. Another one is answered when the client disconnects.
+    events, reply = client.connect_during(reply["ext"]["ack"], server, lambda: client.ask("/", "/a/y", data="held"))
+    assert events == [("/a/y", "held")]
+    _, reply = client.connect_during(reply["ext"]["ack"], server, lambda: client.ask("/disconnect", "/meta/disconnect"))
+    assert reply["advice"]["reconnect"] == "none"
+
+
+def test_response_is_saved_as_text_whatever_its_path_says(server, site) -> None:
+    assert site(server()).ask("/cometd/setup.bat").getheader("Content-Disposition") == 'attachment; filename="f.txt"'

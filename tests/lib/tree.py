@@ -1,0 +1,97 @@
+"""A small copy of this repository: ./bayeux with stubs in place of the toolchain, of the crates, and of the scripts that build programs."""
+import io
+import os
+import pathlib
+import subprocess
+import sys
+import tarfile
+
+from base import TOP
+
+FILES = ("bayeux", "scripts/dist.py", "scripts/program", "scripts/repository.py")
+PROGRAMS = ("bayeuxd", "bayeux_replay", "bayeux_load")
+PACKAGE = "dist/gadzilk_1_amd64.deb"
+# A program that prints its kind and its arguments.
+PROGRAM = '#!/bin/sh\necho {} "$@"\n'
+# Stubs: scripts/checked prints the path of a program, scripts/build fails, and scripts/replay_record prints the program and its arguments.
+STUBS = {
+    "scripts/checked": '#!/bin/sh\nfile=$(dirname "$0")/$1\nprintf \'#!/bin/sh\\necho checked "$@"\\n\' >"$file"\nchmod +x "$file"\necho "$file"\n',
+    "scripts/build": '#!/bin/sh\necho build "$@"\nexit 3\n',
+    "scripts/replay_record": '#!/bin/sh\necho "$REPLAY" "$@"\n',
+    "tests/run": '#!/bin/sh\necho test "$@"\n',
+}
+# Calls functions of the copy's scripts, with the arguments.
+CALL = 'import sys; sys.dont_write_bytecode = True; sys.path.insert(0, "scripts"); import dist, repository; {}'
+RECORD = CALL.format("repository.record_build(sys.argv[1], repository.Checksums(repository.toolchain()).checksum(sys.argv[2]))")
+DESCRIBE = CALL.format('dist.write_sources("dist", repository.toolchain()); dist.write_checksums("dist")')
+
+
+class Tree:
+    """A repository in `folder`, with three small programs in place of the crates, and a toolchain with nothing but its version."""
+
+    def __init__(self, folder):
+        self.top = pathlib.Path(folder, "repository")
+        for it in FILES:
+            self.write(it, (TOP / it).read_bytes(), 0o755)
+        for it, text in STUBS.items():
+            self.write(it, text, 0o755)
+        self.write("crates.txt", "".join(f"{it}:\n" for it in PROGRAMS))
+        for it in PROGRAMS:
+            self.write(f"crates/{it}/src/main.rt", f"fn {it}() {{}}\n")
+        self.write("../kit/bin/rt", "", 0o755)
+        self.write("../kit/KIT-ID", f"kit {self.python(CALL.format('print(repository.LOGIC)'))}")
+        # The search paths for programs, without the toolchain and with it.
+        self.bare_path = f"{folder}/bin:/usr/bin:/bin"
+        self.path = f"{folder}/kit/bin:{self.bare_path}"
+        os.mkdir(f"{folder}/bin")
+        os.symlink(sys.executable, f"{folder}/bin/python3")
+
+    def write(self, path, data, mode=0o644):
+        """Writes the file `path`. `data`: bytes or text."""
+        file = self.top / path
+        file.parent.mkdir(parents=True, exist_ok=True)
+        file.write_bytes(data if isinstance(data, bytes) else data.encode())
+        file.chmod(mode)
+
+    def python(self, text, *args, path=None):
+        """Runs a Python text in the folder, and returns its output. `path`: the search path for programs."""
+        env = {**os.environ, "PATH": path or os.environ["PATH"]}
+        how = {"cwd": self.top, "env": env, "stdout": subprocess.PIPE, "text": True, "timeout": 60, "check": True}
+        return subprocess.run([sys.executable, "-c", text, *args], **how).stdout.strip()
+
+    def call(self, *args, path=None):
+        """Runs a command in the folder, and returns its status, its output and its errors. `path`: the search path for programs."""
+        env = {**os.environ, "PATH": path or self.path}
+        result = subprocess.run(args, cwd=self.top, env=env, capture_output=True, text=True, check=False, timeout=60)
+        return result.returncode, result.stdout.strip(), result.stderr
+
+    def bayeux(self, *args, path=None):
+        """Runs ./bayeux, whose status must be 0. Returns what it prints, and whether it says that a program is a checked build."""
+        status, output, errors = self.call("./bayeux", *args, path=path)
+        assert status == 0, errors
+        return output, "bayeux: checked build: " in errors
+
+    def prove(self, data=None):
+        """Makes each program proved and built from the current sources. `data`: its content."""
+        for it in PROGRAMS:
+            self.write(f"crates/{it}/out/{it}", data or PROGRAM.format("proved"), 0o755)
+            self.python(RECORD, f"crates/{it}/out/{it}", it, path=self.path)
+
+    def release(self, data=None, kind="xz"):
+        """Makes a release of the current sources. `data`: the content of each program. `kind`: how its package is compressed."""
+        content, data = io.BytesIO(), data or PROGRAM.format("released").encode()
+        with tarfile.open(fileobj=content, mode=f"w:{kind}") as archive:
+            for it in PROGRAMS:
+                head = tarfile.TarInfo(f"./usr/bin/{it}")
+                head.size = len(data)
+                archive.addfile(head, io.BytesIO(data))
+        members = {"debian-binary": b"2.0\n", "control.tar.xz": b"odd", f"data.tar.{kind}": content.getvalue()}
+        package = b"!<arch>\n"
+        for name, it in members.items():
+            package += f"{name:16}{0:<12}{0:<6}{0:<6}{100644:<8}{len(it):<10}`\n".encode() + it + b"\n" * (len(it) % 2)
+        self.write(PACKAGE, package)
+        self.python(DESCRIBE, path=self.path)
+
+    def damage(self):
+        """Adds a byte to the package of the release."""
+        self.write(PACKAGE, (self.top / PACKAGE).read_bytes() + b"\n")

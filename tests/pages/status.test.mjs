@@ -1,0 +1,256 @@
+// The script of the status page, with a clock and metrics of this file, and with elements that only keep what they get.
+import assert from 'node:assert/strict';
+import { readFileSync } from 'node:fs';
+import test from 'node:test';
+import vm from 'node:vm';
+import { Element } from './page_place.mjs';
+
+const read = (path) => readFileSync(new URL(path, import.meta.url), 'utf8');
+// Samples, what the charts show of them without and with the pointer at the second sample, metrics, the facts that the page shows of
+// them, and what its functions return.
+const { samples: SAMPLES, shown: SHOWN, metrics: METRICS, facts: FACTS, results: RESULTS } = JSON.parse(read('status_data.json'));
+// The page, which a daemon serves as it is (tests/daemon/test_metrics.py).
+const [, HTML] = read('../../crates/bx_metrics/src/status_page.rt').match(/r#"([^]*)"#;/);
+const [, BODY, SCRIPT] = HTML.match(/<body>([^]*)<script>([^]*)<\/script>/);
+// The longest time for which a page may wait for metrics, in milliseconds, and how long a phone is locked.
+const PATIENCE = 30000, LOCKED = 300000;
+// What the page says of a server that it reads, that it read before, and that it never read.
+const READING = /^reads the metrics every (\d+) s$/, LOST = /^no metrics since /, NEVER = /^no metrics at this address$/;
+
+/** A status page whose clock stands still. `asked`: its request that has no response yet. `timer`: what it does later. */
+class Page {
+  constructor() {
+    const page = this;
+    this.now = Date.UTC(2026, 0, 2, 12);
+    this.elements = new Map();
+    this.body = new Element();
+    this.root = new Element('', BODY);
+    const document = this.document = {
+      body: this.body,
+      getElementById: (id) => this.element(id),
+      querySelector: (selector) => this.root.querySelector(selector),
+      createElement: (tag) => new Element(tag),
+      createElementNS: (space, tag) => new Element(`${space} ${tag}`),
+    };
+    class PageDate extends Date {
+      static now() {
+        return page.now;
+      }
+    }
+    const fetch = (url, options = {}) => new Promise((resolve, reject) => {
+      assert.equal(this.asked, undefined, 'a request while another one has no response');
+      this.asked = { url, ...options, resolve, reject };
+    });
+    const AbortSignal = { timeout: (milliseconds) => ({ milliseconds }) };
+    const setTimeout = (go, milliseconds) => {
+      assert.equal(this.timer, undefined, 'two timers');
+      this.timer = { go, milliseconds };
+    };
+    const location = { host: 'h' };
+    this.context = vm.createContext({ Date: PageDate, document, fetch, AbortSignal, setTimeout, location });
+    vm.runInContext(SCRIPT, this.context);
+  }
+
+  element(id) {
+    const { 1: html } = BODY.match(`<template id="${id}">([^]*?)</template>`) ?? [];
+    if (!this.elements.has(id) && BODY.includes(` id="${id}"`)) this.elements.set(id, new Element('', html));
+    return this.elements.get(id) ?? null;
+  }
+
+  /** Returns the first chart with the title `title`. */
+  chart(title) {
+    return this.root.querySelector('main').children.find((it) => it.querySelector('h2').textContent === title);
+  }
+
+  /** Returns how many pieces the curve of the sessions has. */
+  pieces() {
+    return this.chart('Sessions').querySelector('g').children[0].attributes.d.split('M').length - 1;
+  }
+
+  /** Answers the request of the page. `body`: the text of the response, or null if there is none before the page gives up. */
+  async answer(body, ok = true) {
+    const { url, cache, signal, resolve, reject } = this.asked;
+    this.asked = undefined;
+    assert.deepEqual([url, cache], ['metrics', 'no-store']);
+    if (body !== null) {
+      resolve({ ok, status: ok ? 200 : 502, text: async () => body });
+    } else {
+      assert.ok(signal?.milliseconds <= PATIENCE, `the page waits for ever, or for longer than ${PATIENCE} ms`);
+      this.now += signal.milliseconds;
+      reject(new Error('timeout'));
+    }
+    await new Promise((go) => setImmediate(go));
+  }
+
+  /** Lets `milliseconds` pass, by default those until the next request, and answers this request. */
+  async next(body, milliseconds = this.timer.milliseconds, ok = true) {
+    const { go } = this.timer;
+    this.timer = undefined;
+    this.now += milliseconds;
+    go();
+    await this.answer(body, ok);
+  }
+
+  /** Checks what the page says of the server, and whether its charts are faint. */
+  expectState(wanted) {
+    const { className, textContent } = this.element('state');
+    assert.match(textContent, wanted);
+    if (wanted === LOST) assert.equal(textContent, `no metrics since ${new Date(this.lastRead).toLocaleTimeString()}`);
+    else this.lastRead = this.now;
+    assert.equal(className, wanted === READING ? 'connected' : 'interrupted');
+    assert.equal(this.body.classes.has('old'), wanted === LOST);
+    const [, seconds] = textContent.match(READING) ?? [];
+    if (seconds) assert.equal(this.timer.milliseconds, 1000 * seconds, 'the page reads as often as it says');
+  }
+}
+
+const metrics = (sessions) => `bayeux_uptime_seconds_total 60\nbayeux_sessions ${sessions}\n`;
+
+// A server that answers, hangs, fails, is not a bayeuxd, and answers again. No request follows before the one before has ended.
+test('a server that answers, hangs, fails, is not a bayeuxd, and answers again', async () => {
+  const page = new Page();
+  await page.answer(metrics(1));
+  page.expectState(READING);
+  for (const wrong of [[null], ['', undefined, false], ['<html>'], [metrics(1), undefined, false]]) {
+    await page.next(...wrong);
+    page.expectState(LOST);
+    const before = page.pieces();
+    await page.next(metrics(2));
+    page.expectState(READING);
+    assert.equal(page.pieces(), before + 1, 'a curve has a gap after a failure');
+  }
+  for (const wrong of [null, '<html>']) {
+    const late = new Page();
+    await late.answer(wrong);
+    late.expectState(NEVER);
+    await late.next(metrics(3));
+    late.expectState(READING);
+  }
+});
+
+// A page that did not run for a while, for example because a phone was locked.
+test('a page that did not run for a while', async () => {
+  const page = new Page();
+  await page.answer(metrics(1));
+  const begin = page.now;
+  for (const pause of [undefined, undefined, LOCKED, undefined, LOCKED / 2]) {
+    const before = page.pieces();
+    await page.next(metrics(2), pause);
+    page.expectState(READING);
+    const what = pause === undefined ? 'a usual pause' : `${pause} ms`;
+    assert.equal(page.pieces(), before + (pause === undefined ? 0 : 1), `pieces of a curve after ${what}`);
+  }
+  const early = new Page();
+  await early.answer(metrics(1));
+  await early.next(metrics(2), LOCKED);
+  assert.equal(early.pieces(), 2, 'pieces of a curve with a pause after the first sample');
+  // The curves show fifteen minutes. The oldest sample is the first one, and later the first one after the phone was locked.
+  for (const [minutes, oldest] of [[14, 0], [16, LOCKED + 2 * page.timer.milliseconds]]) {
+    await page.next(metrics(2), begin + 60000 * minutes - page.now);
+    assert.equal(vm.runInContext('samples[0].time', page.context) - begin, oldest, `the oldest sample after ${minutes} minutes`);
+  }
+});
+
+// The pointer shows the values of a time until it leaves, or until the system takes it, for example to scroll.
+test('the pointer shows the values of a time', async () => {
+  const page = new Page();
+  const start = page.now;
+  await page.answer(metrics(1));
+  const text = (selector) => page.chart('Sessions').querySelector(selector).textContent;
+  const shown = () => [text('.value'), text('.now').split(' ')[0]];
+  page.chart('Sessions').querySelector('.plot').dispatchEvent(Object.assign(new Event('pointermove'), { clientX: 100 }));
+  assert.deepEqual(shown(), ['1', 'at']);
+  page.chart('Sessions').querySelector('.plot').dispatchEvent(new Event('pointerleave'));
+  await page.next(metrics(2));
+  for (const end of ['pointerleave', 'pointercancel']) {
+    assert.deepEqual(shown(), ['2', 'now']);
+    const plot = page.chart('Sessions').querySelector('.plot');
+    plot.dispatchEvent(Object.assign(new Event('pointermove'), { clientX: 100 }));
+    assert.deepEqual(shown(), ['1', 'at']);
+    assert.equal(text('.now'), `at ${new Date(start).toLocaleTimeString()}`);
+    plot.dispatchEvent(new Event(end));
+  }
+  assert.deepEqual(shown(), ['2', 'now']);
+});
+
+// Each row of a key has the colour of its curve, also if the key leaves out series, or has those with the greatest peaks. While the
+// server does not answer, no row has a value.
+test('each row of a key has the colour of its curve', async () => {
+  const page = new Page();
+  const refused = (reason, value) => `bayeux_requests_refused_total{status="400",reason="${reason}"} ${value}\n`;
+  const lags = Array.from({ length: 14 }, (_, shard) => `bayeux_shard_lag_entries{shard="${shard}"} ${shard}\n`).join('');
+  const text = (count) => `${metrics(1)}${refused('quiet', 0)}${refused('first', count)}${refused('second', 2 * count)}${lags}`;
+  await page.answer(text(0));
+  await page.next(text(30));
+  const items = (title) => page.chart(title).querySelector('.key').children;
+  const rows = (title) => items(title).map(({ children: [mark, label] }) => [mark.style.background, label]);
+  const curves = (title) => page.chart(title).querySelector('g').children.map(({ style }) => style.stroke);
+  const shards = Array.from({ length: 12 }, (_, at) => 13 - at);
+  const wanted = {
+    'Refusals': [[1, '400 first'], [2, '400 second']],
+    'Shard lag': shards.map((shard) => [shard, `shard ${shard}`]),
+  };
+  const values = { 'Refusals': [10, 20], 'Shard lag': shards };
+  const seconds = page.timer.milliseconds / 1000;
+  for (const isRead of [true, false]) {
+    if (!isRead) await page.next(null);
+    for (const [title, series] of Object.entries(wanted)) {
+      const colours = curves(title);
+      for (const it of colours) assert.match(it, /^light-dark\(hsl\(([\d.]+) 70% 40%\), hsl\(\1 80% 70%\)\)$/);
+      assert.equal(new Set(colours).size, colours.length, `colours of ${title}`);
+      const value = (at) => (isRead ? values[title][at] * (title === 'Refusals' ? 3 / seconds : 1) : '–');
+      assert.deepEqual(rows(title), series.map(([index, name], at) => [colours[index], `${name}: ${value(at)}`]));
+    }
+  }
+});
+
+// All that the charts show of given samples, without the pointer, with it, and after it has left. Also all facts.
+test('all that the charts and the facts show', async () => {
+  const page = new Page();
+  await page.answer(metrics(1));
+  const draw = (samples) => vm.runInContext(`samples = ${JSON.stringify(samples)}.map(([time, it]) => ({ time, values: it && parse(it) })); draw()`, page.context);
+  const charts = page.root.querySelector('main').children;
+  const shown = () => charts.map((root) => {
+    const part = (selector) => root.querySelector(selector);
+    const texts = ['h2', '.unit', '.value', '.most'].map((it) => part(it).textContent);
+    const curves = part('g').children.map(({ tag, attributes }) => {
+      assert.deepEqual([tag, attributes.class], ['http://www.w3.org/2000/svg path', 'curve']);
+      return attributes.d;
+    });
+    const key = part('.key').children.map(({ tag, children: [mark, label] }) => {
+      assert.deepEqual([tag, mark.tag], ['li', 'i']);
+      return label;
+    });
+    return [...texts, part('svg').attributes['aria-label'], curves, key, part('.rest').textContent, part('.cursor').attributes.d, part('.now').textContent.split(' ')[0]];
+  });
+  draw(SAMPLES);
+  assert.deepEqual(shown(), SHOWN[0]);
+  const plot = charts[0].querySelector('.plot');
+  plot.dispatchEvent(Object.assign(new Event('pointermove'), { clientX: 1000 - (SAMPLES.at(-1)[0] - SAMPLES[1][0]) / 1000 }));
+  assert.deepEqual(shown(), SHOWN[1]);
+  plot.dispatchEvent(new Event('pointerleave'));
+  assert.deepEqual(shown(), SHOWN[0]);
+  const facts = () => page.element('facts').children.map(({ tag, children: [term, value] }) => {
+    assert.deepEqual([tag, term.tag, value.tag], ['div', 'dt', 'dd']);
+    return `${term.textContent}: ${value.textContent}`;
+  });
+  assert.equal(page.document.title, 'bayeuxd at h');
+  draw([[page.now, METRICS]]);
+  assert.deepEqual(facts(), FACTS);
+  draw([[page.now, 'bayeux_uptime_seconds_total 5\n']]);
+  assert.deepEqual(facts(), ['Uptime: 5 s', ...FACTS.slice(1).map((it) => it.replace(/1,0\d\d/g, '–'))]);
+  for (const [name, results] of Object.entries(RESULTS)) {
+    const found = results.map(([it]) => vm.runInContext(`${name}(${it})`, page.context));
+    assert.deepEqual(found, results.map(([, it]) => it), name);
+  }
+});
+
+// A key lists twelve series, and says how many more there are.
+test('a key lists twelve series and says how many more there are', async () => {
+  for (const [count, rest] of [[11, ''], [12, ''], [13, 'and 1 more']]) {
+    const page = new Page();
+    await page.answer(metrics(1) + Array.from({ length: count }, (_, shard) => `bayeux_shard_lag_entries{shard="${shard}"} 0\n`).join(''));
+    const chart = page.chart('Shard lag');
+    assert.deepEqual([chart.querySelector('.key').children.length, chart.querySelector('.rest').textContent], [Math.min(count, 12), rest]);
+  }
+});

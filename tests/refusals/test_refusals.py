@@ -1,0 +1,68 @@
+"""A program runs once for each of its allocations, and that one fails: it prints the same, or ends in its preparation.
+
+The program is `bx_refusals`, whose parts use all crates below the daemon.
+"""
+import os
+import subprocess
+from pathlib import Path
+from typing import NamedTuple
+
+import pytest
+from base import TOP, compile_library, has_compiler
+
+PROGRAM = f"{TOP}/crates/bx_refusals/out/bx_refusals"
+PARTS = ("plans", "shard", "rounds", "world", "hub", "window", "service", "pieces")
+# Each test of a part refuses each allocation that is SHARES after another one. So several processors share a part.
+SHARES = 4
+# The greatest number of allocations that are refused, and how long a run may take, in seconds.
+MAX_CALLS, SECONDS = 100_000, 60
+
+
+class Run(NamedTuple):
+    """What a run ended with, and whether it made the allocation that is refused."""
+
+    status: int
+    output: bytes
+    is_met: bool
+
+
+@pytest.fixture(scope="module")
+def refusing_library(tmp_path_factory: pytest.TempPathFactory) -> str:
+    return compile_library("tests/refusals/refuse.c", tmp_path_factory.mktemp("refuse"))
+
+
+@pytest.fixture
+def program(pytestconfig: pytest.Config, skip) -> str:
+    """The path of bx_refusals, which the prover has built. Skips the test without it."""
+    if pytestconfig.getoption("--program") != "proved":
+        pytest.skip("runs with --program proved")
+    if not os.access(PROGRAM, os.X_OK):
+        skip("refusals", f"there is no program {PROGRAM}")
+    if not has_compiler():
+        skip("refusals", "there is no C compiler")
+    return PROGRAM
+
+
+def run(args: list[str], library: str, call: int, folder: Path) -> Run:
+    """Runs a program in which allocation number `call` fails, or none if it is 0."""
+    met = folder / f"met{call}"
+    env = {"LD_PRELOAD": library, "REFUSE": str(call), "REFUSE_MET": str(met)}
+    result = subprocess.run(args, env=env, stdin=subprocess.DEVNULL, capture_output=True, timeout=SECONDS, check=False)
+    return Run(result.returncode, result.stdout, met.exists())
+
+
+@pytest.mark.timeout(1800)
+@pytest.mark.parametrize("first", range(1, SHARES + 1))
+@pytest.mark.parametrize("part", PARTS)
+def test_refused_allocation_changes_nothing(part: str, first: int, program: str, refusing_library: str, tmp_path: Path) -> None:
+    whole = run([program, part], refusing_library, 0, tmp_path)
+    assert whole.status == 0
+    for call in range(first, MAX_CALLS, SHARES):
+        found = run([program, part], refusing_library, call, tmp_path)
+        if not found.is_met:
+            assert call > first, "no allocation was refused"
+            return
+        is_same = found.status == 0 and found.output == whole.output
+        has_ended_in_preparation = found.status == 1 and found.output != whole.output and whole.output.startswith(found.output)
+        assert is_same or has_ended_in_preparation, f"allocation {call} of {part}: status {found.status}, printed {found.output!r}"
+    pytest.fail(f"{part} makes more than {MAX_CALLS} allocations")
