@@ -3,7 +3,8 @@
 
 const CHANNEL = '/chat/hall';
 
-// This window's messages carry this mark, since two people may have the same name.
+// A server sends one's own messages back like those of others. So this window's messages carry this
+// mark. A name would not do: two people may have the same one.
 const OWN_MARK = Math.random().toString(36).slice(2);
 // The list counts as read to the end if at most this many pixels follow.
 const NEAR = 40;
@@ -16,18 +17,29 @@ let newest = {}; // the newest message that this window has sent
 const waiting = []; // the texts to send after it
 
 const client = newClient();
+const presence = new Presence(client, `${CHANNEL}/presence`, showPresence);
 client.onleave = () => {
   hasJoined = false;
-  return [{ channel: CHANNEL, data: { name: ownName, left: true } }];
+  return [{ channel: CHANNEL, data: { name: ownName, left: true } }, presence.farewell()];
 };
-client.ongap = (since) => showNotice(`Messages since ${formatTime(since)} may be missing`);
-const showState = client.onstate;
-client.onstate = (state, why) => {
-  showState(state, why);
+client.addEventListener('gap', ({ since }) => showNotice(`Messages since ${formatTime(since)} may be missing`));
+client.addEventListener('state', ({ state }) => {
   if (state !== 'connected') return;
   showProblem('');
   if (!hasJoined) announce();
-};
+});
+
+// Shows who is online, and who writes.
+function showPresence() {
+  const [names, writers] = [presence.names(), presence.writers()];
+  showLine('online', names.length > 0 ? `Online: ${names.join(', ')}` : '');
+  showLine('writing', writers.length > 0 ? `${writers.join(', ')} ${writers.length > 1 ? 'write' : 'writes'} …` : '');
+}
+
+function showLine(id, text) {
+  if (element(id).textContent !== text) element(id).textContent = text;
+  element(id).hidden = text === '';
+}
 
 // Shows an event. Others may publish anything, so the form of `data` is checked, and it is shown as
 // text and never as HTML.
@@ -165,6 +177,7 @@ element('join').addEventListener('submit', (event) => {
   element('write').hidden = false;
   element('text').focus();
   client.subscribe(CHANNEL, showEvent);
+  presence.join(ownName);
   client.start();
 });
 
@@ -175,6 +188,8 @@ function announce() {
     if (failure.status === 403) showProblem(publishErrorText(failure));
   });
 }
+
+element('text').addEventListener('input', () => presence.write());
 
 element('write').addEventListener('submit', (event) => {
   event.preventDefault();

@@ -1,138 +1,88 @@
+// The client of docs/CLIENT.md. build.mjs made this file from src/: do not edit it.
+(() => {
 'use strict';
-/*
- * A small Bayeux 1.0 client without dependencies. Copy it into a page:
- *
- *     <script src="bayeux.js"></script>
- *     <script>
- *       const client = new BayeuxClient('/cometd');
- *       client.onstate = (state, why) => console.log(state, why);
- *       client.subscribe('/chat/*', (data, channel) => console.log(channel, data));
- *       client.start();
- *       document.onclick = () => client.publish('/chat/hall', { text: 'Hello' }).catch(console.error);
- *     </script>
- *
- * A message is an object with a `channel`. A request has an array of messages. Its response has a
- * reply to each, in order, and events. A reply has the member `successful`, and an event has not.
- *
- * A listener gets each event of its pattern once, in order, even if connections break, while the
- * server knows the session. If the server has forgotten it (the server was restarted, or the page
- * was away for too long), the client opens a new session and subscribes again. Events that were
- * published meanwhile are lost, and `ongap` is called.
- *
- * While the browser keeps a page that the user has left, the client is stopped. It starts again if
- * the user returns. In node 18 and later the client works too.
- *
- * The windows of one origin share a session if the browser supports it. docs/CLIENT.md describes
- * the client. bayeux-module.js is the same client as a module.
- */
 
-// How long a response may take in addition to the time that the server holds it, in milliseconds.
-const NETWORK_TIMEOUT = 10000;
 const NO_ANSWER = 'no answer in time';
-const NO_ANSWER_FAILURE = { message: NO_ANSWER, mayHaveArrived: true };
-// The HTTP status of a publish that is not allowed: the address is the server's listener for
-// readers, or a server in front rejects this page.
-const FORBIDDEN = 403;
-// The first and the longest pause after a failure, in milliseconds.
-const FIRST_PAUSE = 250;
-const LONGEST_PAUSE = 10000;
-// The greatest number of patterns in one request. It keeps the URLs of callback-polling short.
-const PATTERNS_AT_ONCE = 16;
+const NOT_CONNECTED = 'not connected';
+const OFFLINE = 'the browser is offline';
+class BayeuxError extends Error {
+  constructor(code, message, { mayHaveArrived = false, status, reason, reply, pattern, isFinal = false, cause } = {}) {
+    super(message, cause === undefined ? undefined : { cause });
+    Object.assign(this, { code, mayHaveArrived, status, reason, reply, pattern, isFinal });
+  }
+  static from({ code, message, ...more }) {
+    return new BayeuxError(code, message, more);
+  }
+  static ofReply({ error = 'the server gave no reason', advice }, pattern) {
+    const reply = Number(/^\d{3}(?=:)/.exec(error)) || undefined;
+    const text = pattern === undefined ? error : `${pattern}: ${error}`;
+    return new BayeuxError('rejected', text, { reply, pattern, isFinal: advice?.reconnect === 'none' });
+  }
+  toJSON() {
+    return { ...this, message: this.message };
+  }
+}
+BayeuxError.prototype.name = 'BayeuxError';
+const noAnswer = () => new BayeuxError('timeout', NO_ANSWER, { mayHaveArrived: true });
+const notConnected = () => new BayeuxError('disconnected', NOT_CONNECTED);
+const offline = () => new BayeuxError('network', OFFLINE);
+const stopped = () => new BayeuxError('stopped', 'stopped');
 
-// Whether this is a web page, and not a worker or node.
+function show(failure) {
+  if (typeof globalThis.reportError === 'function') globalThis.reportError(failure);
+  else console.error(failure);
+}
+function callSafely(call) {
+  try {
+    const result = call();
+    if (typeof result?.then === 'function') result.then(undefined, show);
+  } catch (failure) {
+    show(failure);
+  }
+}
+const safely = new WeakMap();
+function safeListener(listener) {
+  if (typeof listener !== 'function' && typeof listener?.handleEvent !== 'function') return listener;
+  const call = (event) => callSafely(() => (typeof listener === 'function' ? listener(event) : listener.handleEvent(event)));
+  if (!safely.has(listener)) safely.set(listener, call);
+  return safely.get(listener);
+}
+
 const IS_PAGE = typeof document !== 'undefined';
-
-/** Returns an error with this message. `mayHaveArrived`: whether the request may have succeeded. */
-function failureOf(message, mayHaveArrived, more) {
-  return Object.assign(new Error(message), { mayHaveArrived, ...more });
+const isShown = () => !IS_PAGE || !document.hidden;
+const MOST_MESSAGES = 256;
+const MOST_LAST = 65536;
+function eitherOf(...signals) {
+  const either = new AbortController();
+  signals.forEach((it) => it.addEventListener('abort', () => either.abort(it.reason), { once: true }));
+  return either.signal;
 }
-
-/** Returns an error about the argument `name`: what was `expected`, and what was `given`. */
-function argumentError(name, expected, given) {
-  const isObject = typeof given === 'object' && given !== null;
-  const object = Array.isArray(given) ? 'an array' : 'an object';
-  const text = typeof given === 'string' ? JSON.stringify(given) : typeof given === 'function' ? 'a function' : String(given);
-  return new TypeError(`${name}: expected ${expected}, got ${isObject ? object : text}`);
-}
-
-/** Returns `url` as an absolute address. Throws a TypeError if it is no address of HTTP. */
-function addressOf(url) {
-  const isGiven = url instanceof URL || (typeof url === 'string' && url !== '');
+async function askByFetch(url, messages, { timeout, headers, isLast, signal }) {
+  const body = JSON.stringify(messages);
+  const keepalive = isLast && byteLength(body) < MOST_LAST ? { keepalive: true } : {};
+  const limit = AbortSignal.timeout(timeout);
+  let response;
   try {
-    const address = new URL(url, globalThis.location?.href);
-    if (isGiven && /^https?:$/.test(address.protocol)) return address;
-  } catch {
-    // It is not an address. The error below says so.
-  }
-  const kind = globalThis.location ? 'an http: or https: address' : 'an absolute http: or https: address';
-  throw argumentError('url', kind, url);
-}
-
-/** Throws a TypeError if `options` has an unknown member, or a member of a wrong type. */
-function checkOptions(options) {
-  if (typeof options !== 'object' || options === null) throw argumentError('options', 'an object or a connection type', options);
-  const { connectionType, headers, share, name, ...others } = options;
-  const [unknown] = Object.keys(others);
-  if (unknown !== undefined) throw new TypeError(`options.${unknown}: unknown, expected connectionType, headers, share or name`);
-  const types = Object.keys(TRANSPORTS).filter((type) => IS_PAGE || type !== 'callback-polling');
-  if (connectionType !== undefined && !types.includes(connectionType)) {
-    throw argumentError('options.connectionType', types.map((type) => `"${type}"`).join(' or '), connectionType);
-  }
-  const isRecord = typeof headers === 'object' && headers !== null && !(Symbol.iterator in headers);
-  if (headers !== undefined && !(isRecord && Object.values(headers).every((value) => typeof value === 'string'))) {
-    throw argumentError('options.headers', 'an object with a string for each header field', headers);
-  }
-  if (share !== undefined && typeof share !== 'boolean') throw argumentError('options.share', 'true or false', share);
-  if (name !== undefined && typeof name !== 'string') throw argumentError('options.name', 'a string', name);
-}
-
-/** Throws a TypeError about the argument `name` if `channel` is no string that begins with a slash. */
-function checkChannel(name, channel) {
-  if (typeof channel !== 'string' || !channel.startsWith('/')) throw argumentError(name, 'a string that begins with "/"', channel);
-}
-
-/** Throws a TypeError if a message with `channel` and `data` cannot be published. */
-function checkMessage(channel, data) {
-  checkChannel('channel', channel);
-  let text;
-  try {
-    text = JSON.stringify(data);
-  } catch {
-    // It has a cycle or a BigInt. The error below says so.
-  }
-  if (text === undefined) throw argumentError('data', 'a value that JSON can express', data);
-}
-
-/**
- * Sends messages by long-polling: by a POST of JSON. The page must be from the server's origin.
- *
- * `timeout`: milliseconds to wait. Returns the items of the response.
- */
-async function askByFetch(url, messages, timeout, headers) {
-  try {
-    const response = await fetch(url, {
+    response = await fetch(url, {
       method: 'POST',
       headers: { 'Content-Type': 'application/json', ...headers },
-      body: JSON.stringify(messages),
-      signal: AbortSignal.timeout(timeout),
+      body,
+      signal: signal ? eitherOf(limit, signal) : limit,
+      ...keepalive,
     });
-    const { ok, status } = response;
-    if (!ok) throw failureOf(`HTTP status ${status}`, status >= 500 && status !== 501, { status });
-    return await response.json();
-  } catch (failure) {
-    throw failure.name === 'TimeoutError' ? new Error(NO_ANSWER) : failure;
+    if (response.ok) return await response.json();
+  } catch (cause) {
+    if (signal?.aborted) throw signal.reason;
+    if (cause.name === 'TimeoutError') throw noAnswer();
+    throw new BayeuxError(response?.ok ? 'protocol' : 'network', cause.cause?.message || cause.message, { mayHaveArrived: true, cause });
   }
+  const { status } = response;
+  const reason = response.headers.get('bayeux-error') ?? undefined;
+  const text = `HTTP status ${status}${reason ? `: ${reason}` : ''}`;
+  throw new BayeuxError('http', text, { mayHaveArrived: status >= 500 && status !== 501, status, reason });
 }
-
 let callbackCount = 0;
-
-/**
- * Sends messages by callback-polling: the response is a script that calls a function of the page.
- * The script may be from any origin.
- *
- * `timeout`: milliseconds to wait. Returns the items of the response.
- */
-async function askByScript(url, messages, timeout) {
+async function askByScript(url, messages, { timeout, signal }) {
   await pageIsLoaded();
   return new Promise((resolve, reject) => {
     const name = `bayeux_callback_${++callbackCount}`;
@@ -143,80 +93,274 @@ async function askByScript(url, messages, timeout) {
       script.remove();
       settle(value);
     };
-    const timer = setTimeout(() => {
-      finish(reject, new Error(NO_ANSWER));
-      // The script may still arrive. It then calls this.
+    const giveUp = (failure) => {
+      finish(reject, failure);
       window[name] = () => delete window[name];
-    }, timeout);
+    };
+    const timer = setTimeout(() => giveUp(noAnswer()), timeout);
+    signal?.addEventListener('abort', () => giveUp(signal.reason), { once: true });
     window[name] = (items) => finish(resolve, items);
-    script.onerror = () => finish(reject, new Error('the server cannot be reached, or refused the request'));
-    const address = addressOf(url);
+    script.onerror = () => finish(reject, new BayeuxError('network', 'the server cannot be reached, or refused the request', { mayHaveArrived: true }));
+    const address = new URL(url, location.href);
     const query = `jsonp=${name}&message=${encodeURIComponent(JSON.stringify(messages))}`;
     address.search = address.search ? `${address.search}&${query}` : query;
     script.src = address;
     document.head.append(script);
   });
 }
-
-// Waits until the page is loaded. A script that is added earlier would keep the page loading for as
-// long as the server holds the response.
 function pageIsLoaded() {
   if (document.readyState === 'complete') return Promise.resolve();
   return new Promise((resolve) => window.addEventListener('load', () => setTimeout(resolve), { once: true }));
 }
-
-const TRANSPORTS = { 'long-polling': askByFetch, 'callback-polling': askByScript };
-
-/** Returns the transport that works from here: fetch, or in a page scripts for other origins. */
+function byteLength(text) {
+  return new TextEncoder().encode(text).length;
+}
+const TRANSPORTS = {
+  'long-polling': { ask: askByFetch, most: 60000, sizeOf: byteLength },
+  'callback-polling': { ask: askByScript, most: 6000, sizeOf: (text) => encodeURIComponent(text).length },
+};
 function transportFor(address) {
   return IS_PAGE && address.origin !== location.origin ? 'callback-polling' : 'long-polling';
 }
-
-/** Returns whether `channel` matches: a final `*` stands for one segment, `**` for one or more. */
-function isMatch(pattern, channel) {
-  if (!pattern.endsWith('*')) return pattern === channel;
-  const path = pattern.replace(/\*+$/, '');
-  const rest = channel.slice(path.length);
-  return channel.startsWith(path) && rest !== '' && (pattern.endsWith('/**') || !rest.includes('/'));
+function sendLast(url, connectionType, messages, headers) {
+  const body = JSON.stringify(messages);
+  const isPolling = connectionType === 'long-polling';
+  const isBeacon = (!isPolling || Object.keys(headers).length === 0) && 'sendBeacon' in (globalThis.navigator ?? {});
+  const all = isPolling ? { 'Content-Type': 'application/json', ...headers } : {};
+  if (isBeacon) navigator.sendBeacon(url, isPolling ? new Blob([body], { type: 'application/json' }) : body);
+  else fetch(url, { method: 'POST', keepalive: true, headers: all, body }).catch(() => {});
 }
 
-function pause(milliseconds) {
-  return new Promise((resolve) => setTimeout(resolve, milliseconds));
+function argumentError(name, expected, given) {
+  const isObject = typeof given === 'object' && given !== null;
+  const object = Array.isArray(given) ? 'an array' : 'an object';
+  const text = typeof given === 'string' ? JSON.stringify(given) : typeof given === 'function' ? 'a function' : String(given);
+  return new TypeError(`${name}: expected ${expected}, got ${isObject ? object : text}`);
 }
-
-/** Calls `listener`. An error that it throws is reported to the console, and stops nothing else. */
-function callSafely(listener) {
+function addressOf(url) {
+  const isGiven = url instanceof URL || (typeof url === 'string' && url !== '');
   try {
-    listener();
-  } catch (failure) {
-    queueMicrotask(() => {
-      throw failure;
+    const address = new URL(url, globalThis.location?.href);
+    if (isGiven && /^https?:$/.test(address.protocol)) return address;
+  } catch {
+  }
+  const kind = globalThis.location ? 'an http: or https: address' : 'an absolute http: or https: address';
+  throw argumentError('url', kind, url);
+}
+const isRecord = (it) => typeof it === 'object' && it !== null && !(Symbol.iterator in it);
+const isFunction = (it) => typeof it === 'function';
+const isMilliseconds = (it) => Number.isFinite(it) && it > 0;
+const connectionTypes = () => Object.keys(TRANSPORTS).filter((type) => IS_PAGE || type !== 'callback-polling');
+const checkHeaders = (name, it) => check(name, 'an object with a string for each header field, or a function', it, () =>
+  isFunction(it) || (isRecord(it) && Object.values(it).every((value) => typeof value === 'string')));
+const milliseconds = (name, it) => check(name, 'milliseconds above 0', it, isMilliseconds);
+const OPTIONS = {
+  connectionType: (name, it) => check(name, connectionTypes().map((type) => `"${type}"`).join(' or '), it, () => connectionTypes().includes(it)),
+  headers: checkHeaders,
+  ext: (name, it) => check(name, 'an object or a function', it, () => isFunction(it) || isRecord(it)),
+  share: (name, it) => check(name, 'true or false', it, () => typeof it === 'boolean'),
+  name: (name, it) => check(name, 'a string', it, () => typeof it === 'string'),
+  timeout: milliseconds,
+  maxNetworkDelay: milliseconds,
+  minPause: milliseconds,
+  maxPause: milliseconds,
+  queue: (name, it) => check(name, 'a whole number', it, () => Number.isInteger(it) && it >= 0),
+};
+function check(name, expected, value, isRight) {
+  if (!isRight(value)) throw argumentError(name, expected, value);
+}
+function checkOptions(options) {
+  if (typeof options !== 'object' || options === null) throw argumentError('options', 'an object or a connection type', options);
+  const names = Object.keys(OPTIONS);
+  const unknown = Object.keys(options).find((it) => !names.includes(it));
+  if (unknown !== undefined) throw new TypeError(`options.${unknown}: unknown, expected ${names.slice(0, -1).join(', ')} or ${names.at(-1)}`);
+  for (const name of names) if (options[name] !== undefined) OPTIONS[name](`options.${name}`, options[name]);
+}
+function checkChannel(name, channel) {
+  check(name, 'a string that begins with "/"', channel, () => typeof channel === 'string' && channel.startsWith('/'));
+}
+function checkListener(listener) {
+  check('listener', 'a function', listener, isFunction);
+}
+function checkSignal(signal) {
+  check('options.signal', 'an AbortSignal', signal, () => signal === undefined || isFunction(signal?.addEventListener));
+}
+function becomesNull(holder, name, value) {
+  if (typeof value === 'number') return !Number.isFinite(value);
+  if (value === null) return Object.prototype.toString.call(holder[name]) === '[object Date]';
+  return Array.isArray(holder) && ['undefined', 'function', 'symbol'].includes(typeof value);
+}
+function messageOf(channel, data) {
+  checkChannel('channel', channel);
+  const expected = 'a value that JSON can express';
+  const lost = []; // what JSON would replace by null
+  let text;
+  try {
+    text = JSON.stringify(data, function check(name, value) {
+      if (becomesNull(this, name, value)) lost.push([name === '' ? 'data' : `"${name}" in data`, value === null ? String(this[name]) : value]);
+      return value;
     });
+  } catch {
+  }
+  for (const [name, value] of lost) throw argumentError(name, expected, value);
+  if (text === undefined) throw argumentError('data', expected, data);
+  return { channel, data: JSON.parse(text) };
+}
+function messagesOf(last) {
+  check('last', 'an array of messages', last, Array.isArray);
+  return last.map(({ channel, data }) => messageOf(channel, data));
+}
+
+const FORBIDDEN = 403;
+const REFUSED_AS_A_WHOLE = [FORBIDDEN, 413];
+class Outbox {
+  constructor(session) {
+    this.session = session;
+    this.waiting = []; // publishes with a `message`, and others with an `action`
+    this.sending = null; // settles when nothing waits any more, if something does
+    this.isOpen = false; // whether a request is open
+  }
+  inOrder(action, isFirst = false) {
+    return this.add({ action, isFirst });
+  }
+  publish(message, isOwn = true, atSending = () => {}) {
+    return this.add({ message, isOwn, atSending });
+  }
+  add(entry) {
+    const promise = new Promise((resolve, reject) => Object.assign(entry, { resolve, reject }));
+    if (entry.isFirst) this.waiting.unshift(entry);
+    else this.waiting.push(entry);
+    this.send();
+    return promise;
+  }
+  send() {
+    this.sending ??= this.sendAll();
+  }
+  async sendAll() {
+    await null;
+    try {
+      while (this.waiting.length > 0) {
+        const [{ action, resolve, reject }] = this.waiting;
+        if (action) {
+          this.waiting.shift();
+          await action().then(resolve, reject);
+        } else if (this.session.isQueueing() || this.isRepeated()) {
+          break;
+        } else {
+          await this.publishTogether(this.take(this.waiting));
+        }
+      }
+    } finally {
+      this.sending = null;
+    }
+  }
+  isRepeated() {
+    return this.waiting[0].isAgain === true && this.session.clientId === null;
+  }
+  giveUpRepeats() {
+    if (this.waiting.length === 0 || this.session.isQueueing() || !this.isRepeated()) return;
+    this.waiting.splice(0).forEach((entry) => (entry.action ? this.waiting.push(entry) : entry.reject(notConnected())));
+  }
+  take(entries, others = 0, clientId = this.session.clientId) {
+    const { connectionType, mayPublish } = this.session;
+    const { most, sizeOf } = TRANSPORTS[connectionType];
+    let count = 0;
+    let size = 0;
+    for (const { message } of entries) {
+      if (!message || count + others === MOST_MESSAGES) break;
+      size += sizeOf(JSON.stringify({ ...message, clientId })) + 1;
+      if (count > 0 && (size > most || !mayPublish)) break;
+      count++;
+    }
+    return entries.splice(0, count);
+  }
+  async publishTogether(entries) {
+    const { session } = this;
+    const { clientId } = session;
+    if (clientId === null) entries.forEach(({ reject }) => reject(notConnected()));
+    else if (session.isLed()) entries.forEach(({ message, resolve, reject }) => session.windows.ask('publish', message).then(resolve, reject));
+    else await this.request(entries, clientId);
+  }
+  async ask(messages, clientId = this.session.clientId) {
+    this.isOpen = true;
+    try {
+      return await this.session.askAll(messages, { clientId });
+    } finally {
+      this.isOpen = false;
+    }
+  }
+  async request(entries, clientId, end = [], isLast = false) {
+    try {
+      entries.forEach(({ atSending }) => atSending?.());
+      const messages = [...entries.map(({ message }) => message), ...end];
+      const replies = await (isLast ? this.session.askAll(messages, { clientId, isLast: true }) : this.ask(messages, clientId));
+      this.settle(entries, replies);
+      return messages.every((_, at) => replies[at]?.successful);
+    } catch (failure) {
+      if (entries.length + end.length > 1 && REFUSED_AS_A_WHOLE.includes(failure.status)) {
+        const outcomes = [];
+        for (const entry of entries) outcomes.push(await this.request([entry], clientId));
+        if (end.length > 0) outcomes.push(await this.request([], clientId, end, isLast));
+        return outcomes.every(Boolean);
+      }
+      entries.forEach(({ reject }) => reject?.(this.errorOf(failure)));
+      return false;
+    }
+  }
+  settle(entries, replies) {
+    const { session } = this;
+    const again = [];
+    entries.forEach((entry, at) => {
+      const reply = replies[at];
+      if (!reply) entry.reject?.(new BayeuxError('protocol', 'the response lacks a reply', { mayHaveArrived: true }));
+      else if (reply.successful) entry.resolve?.();
+      else if (reply.advice?.reconnect === 'handshake' && this.mayRepeat(entry)) again.push(entry);
+      else entry.reject?.(BayeuxError.ofReply(reply));
+    });
+    const at = this.waiting.findIndex(({ isFirst }) => !isFirst);
+    this.waiting.splice(at < 0 ? this.waiting.length : at, 0, ...again);
+    if (entries.some((_, at) => replies[at]?.successful)) session.setMayPublish(true);
+  }
+  mayRepeat(entry) {
+    if (!entry.reject || this.session.opening === null) return false;
+    const isFirst = !entry.isAgain;
+    entry.isAgain = true;
+    return isFirst || (entry.isOwn && this.session.isQueueing());
+  }
+  errorOf(failure) {
+    if (failure.status !== FORBIDDEN) return failure;
+    this.session.setMayPublish(false);
+    return new BayeuxError('forbidden', `publishing is not allowed here: HTTP status ${FORBIDDEN}`, { status: FORBIDDEN, reason: failure.reason });
+  }
+  get length() {
+    return this.waiting.filter(({ isOwn }) => isOwn).length;
+  }
+  takeOwn() {
+    const own = this.waiting.filter(({ isOwn }) => isOwn);
+    this.waiting = this.waiting.filter(({ isOwn }) => !isOwn);
+    return own;
+  }
+  dropOthers() {
+    this.waiting = this.waiting.filter(({ action, isOwn }) => action || isOwn);
   }
 }
+function giveUp(entries, mayHaveArrived = false) {
+  entries.forEach(({ reject }) => reject?.(new BayeuxError('stopped', 'stopped', { mayHaveArrived })));
+}
 
-/** Returns whether windows can share a session: not from disk, over HTTP only on this machine. */
 function canShareSession() {
   const { origin, navigator } = globalThis;
   return origin !== undefined && origin !== 'null' && 'locks' in navigator && 'BroadcastChannel' in globalThis;
 }
-
-/**
- * The windows that share a session.
- *
- * A browser opens at most six connections to a server over HTTP/1.1, and each connect takes one. So
- * one window, the leader, holds a lock, has the session, and acts for the others. It sends all
- * events and states to them. Once it is gone, the next window gets the lock, and continues with the
- * session as it last heard of it.
- */
-class BayeuxWindows {
-  constructor(client, lead) {
-    const name = `bayeux 1 ${client.connectionType} ${addressOf(client.url)}`;
-    this.client = client;
+class Windows {
+  constructor(session, lead) {
+    const name = `bayeux 2 ${session.connectionType} ${addressOf(session.url)}`;
+    this.session = session;
     this.id = `${Date.now()} ${Math.random()}`;
     this.isLeading = false;
     this.leader = ''; // the id of the leader, as far as this window knows
     this.wanted = new Map(); // if this window leads: the patterns of each other window, by its id
+    this.looking = new Set(); // if this window leads: the ids of the other windows that are visible
     this.inherited = []; // the session's patterns at a takeover, until the others have sent theirs
     this.asked = new Map(); // the requests to the leader that it has not answered, by their numbers
     this.taken = new Set(); // the numbers of those that the leader has sent to the server
@@ -235,173 +379,158 @@ class BayeuxWindows {
     navigator.locks.request(name, { signal: this.waiting.signal }, begin).catch(onLockFailure);
     this.join();
   }
-
   begin() {
     this.isLeading = true;
     this.askAgain();
-    this.inherited = [...this.client.subscribed];
-    this.client.subscribed.clear();
-    setTimeout(() => this.forget(() => (this.inherited = [])), NETWORK_TIMEOUT);
+    this.inherited = [...this.session.subscribed];
+    this.session.subscribed.clear();
+    setTimeout(() => this.forget(() => (this.inherited = [])), this.session.maxNetworkDelay);
     this.post('lead');
   }
-
   leave() {
     this.post('leave');
     this.isLeading = false;
-    this.asked.forEach((_, number) => this.settle(number, NO_ANSWER_FAILURE));
+    this.asked.forEach((_, number) => this.settle(number, noAnswer()));
     this.channel.close();
     this.waiting.abort();
     this.release();
   }
-
   post(kind, content) {
     if (this.waiting.signal.aborted) return;
     this.channel.postMessage(JSON.stringify({ ...content, kind, from: this.id }));
   }
-
-  // Sends the others this window's state and session, and `events`, if this window leads.
   shareState(events = []) {
-    const { state, why, knownId, clientId, advice, mayPublish, hasBatches, lastBatch, lastEventTime, subscribed } = this.client;
+    const { state, error, knownId, clientId, advice, mayPublish, hasBatches, lastBatch, lastEventTime, subscribed } = this.session;
     const session = { clientId, advice, mayPublish, hasBatches, lastBatch, lastEventTime };
-    if (this.isLeading) this.post('news', { state, why, knownId, session, subscribed: [...subscribed], events });
+    if (this.isLeading) this.post('news', { state, error, knownId, session, subscribed: [...subscribed], events });
   }
-
   receive(message) {
-    const { client } = this;
+    const { session } = this;
     const isToThis = message.to === this.id;
     if (!this.isLeading) {
       if (message.kind === 'lead' || message.kind === 'news') this.leader = message.from;
       if (message.kind === 'lead') this.askAgain();
-      else if (message.kind === 'news') client.mirror(message);
+      else if (message.kind === 'news') session.mirror(message);
       else if (message.kind === 'taken' && isToThis) this.taken.add(message.number);
-      else if (message.kind === 'answer' && isToThis) this.settle(message.number, message.failure);
+      else if (message.kind === 'refused' && isToThis) session.drop(BayeuxError.from(message.failure));
+      else if (message.kind === 'answer' && isToThis) {
+        if (message.subscribed) session.subscribed = new Set(message.subscribed);
+        this.settle(message.number, message.failure && BayeuxError.from(message.failure));
+      }
     } else if (message.kind === 'want') {
       this.wanted.set(message.from, message.patterns);
+      this.look(message);
       this.shareState();
-      this.answer(message, client.adjust());
+      this.answer(message, session.adjust(), () => ({ subscribed: [...session.subscribed] }));
     } else if (message.kind === 'publish' && isToThis) {
       const { from, number, channel, data } = message;
-      this.answer(message, client.send(channel, data, () => this.post('taken', { to: from, number })));
+      this.answer(message, session.outbox.publish({ channel, data }, false, () => this.post('taken', { to: from, number })));
     } else if (message.kind === 'retry') {
-      client.retry();
+      session.retry();
+    } else if (message.kind === 'look') {
+      this.look(message);
     } else if (message.kind === 'leave') {
+      this.looking.delete(message.from);
       this.forget(() => this.wanted.delete(message.from));
     }
   }
-
-  // Sends a request to the leader. The promise rejects if the leader does not answer in time.
   ask(kind, content) {
     const number = ++this.count;
     return new Promise((resolve, reject) => {
       const timer = setTimeout(() => {
-        this.client.setState('interrupted', NO_ANSWER);
-        this.settle(number, NO_ANSWER_FAILURE);
-      }, NETWORK_TIMEOUT);
+        this.session.setState('interrupted', noAnswer());
+        this.settle(number, noAnswer());
+      }, this.session.maxNetworkDelay);
       this.asked.set(number, { kind, content, resolve, reject, timer });
       this.post(kind, { ...content, number, to: this.leader });
     });
   }
-
-  // Repeats the open requests for a new leader. Publishes that the old one had sent may have
-  // arrived, so they fail instead. `join` sends the patterns again.
   askAgain() {
     this.asked.forEach(({ kind, content }, number) => {
       const settle = (failure) => this.settle(number, failure);
       if (kind === 'want') settle();
-      else if (this.taken.has(number)) settle(NO_ANSWER_FAILURE);
+      else if (this.taken.has(number)) settle(noAnswer());
       else if (!this.isLeading) this.post(kind, { ...content, number, to: this.leader });
-      else this.client.publish(content.channel, content.data).then(() => settle(), settle);
+      else this.session.outbox.publish(content).then(() => settle(), settle);
     });
     this.join();
   }
-
-  answer({ from, number }, result) {
-    const reply = (failure) => this.post('answer', { to: from, number, failure });
-    result.then(() => reply(), (failure) => reply({ ...failure, message: failure.message }));
+  answer({ from, number }, result, more = () => ({})) {
+    const reply = (content) => this.post('answer', { to: from, number, ...content });
+    result.then(() => reply(more()), (failure) => reply({ failure }));
   }
-
+  look({ from, isVisible }) {
+    this.looking[isVisible ? 'add' : 'delete'](from);
+    this.session.renew();
+  }
   settle(number, failure) {
     const { resolve, reject, timer } = this.asked.get(number) || {};
-    // The answer is late, and this window has shown `interrupted` since. `join` gets the state.
     if (!this.asked.delete(number)) return this.join();
     this.taken.delete(number);
     clearTimeout(timer);
-    return failure ? reject(Object.assign(new Error(failure.message), failure)) : resolve();
+    return failure ? reject(failure) : resolve();
   }
-
-  // Sends the leader all patterns of this window.
-  async sendPatterns() {
-    try {
-      await this.ask('want', { patterns: [...this.client.listeners.keys()] });
-    } catch (failure) {
-      this.client.listeners.delete(failure.pattern);
-      throw failure;
-    }
+  sendPatterns() {
+    return this.ask('want', { patterns: [...this.session.listeners.keys()], isVisible: isShown() });
   }
-
   join() {
-    const { client } = this;
-    const report = ({ pattern, message }) => pattern && callSafely(() => client.onstate(client.state, message));
-    if (!this.isLeading) this.sendPatterns().catch(report);
+    if (!this.isLeading) this.sendPatterns().catch(() => {});
   }
-
-  /** Returns the patterns of all other windows. */
   patterns() {
     return [...this.inherited, ...[...this.wanted.values()].flat()];
   }
-
-  // Calls `change`, which removes patterns, and unsubscribes from those that no window wants.
   forget(change) {
     change();
-    this.client.adjust().catch(() => {});
+    this.session.adjust().catch(() => {});
   }
-
-  /** Returns whether another window continues with the session when this one leaves. */
   hasOthers() {
     return !this.isLeading || this.wanted.size > 0;
   }
-
-  refuse(pattern) {
-    this.wanted.forEach((patterns, id) => this.wanted.set(id, patterns.filter((it) => it !== pattern)));
+  refuse(failure) {
+    const isOther = (it) => it !== failure.pattern;
+    this.inherited = this.inherited.filter(isOther);
+    this.wanted.forEach((patterns, id) => {
+      if (patterns.every(isOther)) return;
+      this.wanted.set(id, patterns.filter(isOther));
+      this.post('refused', { to: id, failure });
+    });
   }
 }
 
-class BayeuxClient {
-  /**
-   * Creates a client that is stopped. Throws a TypeError if an argument is wrong.
-   *
-   * `url`: the server's address, such as `/cometd`.
-   * `options`: an object with these members, or the connection type alone:
-   * - `connectionType`: a key of TRANSPORTS. By default, the one that works from this page.
-   * - `headers`: header fields for each long-polling request.
-   * - `share`: whether windows share a session. By default, they do if there are no headers.
-   * - `name`: the session's name, which finds it in a record of the server.
-   */
-  constructor(url, options = {}) {
-    const given = typeof options === 'string' ? { connectionType: options } : options;
-    checkOptions(given);
-    const address = addressOf(url);
+const PATTERNS_AT_ONCE = 16;
+const DISCONNECT = { channel: '/meta/disconnect' };
+const RENEWED = new BayeuxError('network', 'renewed');
+function isMatch(pattern, channel) {
+  if (!pattern.endsWith('*')) return pattern === channel;
+  const path = pattern.replace(/\*+$/, '');
+  const rest = channel.slice(path.length);
+  return channel.startsWith(path) && rest !== '' && (pattern.endsWith('/**') || !rest.includes('/'));
+}
+class Session {
+  constructor(url, address, options, reports) {
     this.url = String(url);
-    this.connectionType = given.connectionType ?? transportFor(address);
-    this.headers = given.headers ?? {};
-    this.name = given.name;
-    this.isShared = (given.share ?? !given.headers) && canShareSession();
-    /** Is called with 'connecting', 'connected', 'interrupted' or 'stopped', and the reason. */
-    this.onstate = () => {};
-    /**
-     * Is called if events may be missing: a new session has replaced an earlier one. Gets the Date
-     * at which the request for the last event began, or that of the subscription without an event.
-     */
-    this.ongap = () => {};
-    /** Is called when the user leaves the page. Returns the messages to publish, as for `stop`. */
-    this.onleave = () => [];
+    this.reports = reports;
+    this.connectionType = options.connectionType ?? transportFor(address);
+    this.headers = options.headers ?? {};
+    this.lastHeaders = {}; // what `headers` was when it was last known, for a page that is left
+    this.ext = options.ext ?? {};
+    this.name = options.name;
+    this.timeout = options.timeout ?? 30000; // how long a connect may be held, unless the page is hidden
+    this.maxNetworkDelay = options.maxNetworkDelay ?? 10000; // how long a response may take in addition to its hold
+    this.minPause = options.minPause ?? 250; // the first pause after a failure, and the longest
+    this.maxPause = options.maxPause ?? 10000;
+    this.queue = options.queue ?? 0; // how many publishes may wait for a connection
+    this.isShared = (options.share ?? !(options.headers || options.ext)) && canShareSession();
     this.state = 'stopped';
     this.why = '';
+    this.error = undefined; // the failure that `why` describes
     this.starts = 0; // how often it was started or stopped
     this.opening = null; // the promise of `start` and its functions, until `stop`
-    this.watching = null; // removes the client's listeners from the page, until `stop`
-    this.endPause = () => {}; // ends the pause after a failure
-    this.windows = null; // the windows that share the session, while the client is started
+    this.watching = null; // removes the listeners from the page, until `stop`
+    this.endPause = () => {}; // ends the pause between two connects
+    this.connecting = null; // the AbortController of the connect that is open
+    this.hold = 0; // milliseconds for which the server may hold it
+    this.windows = null; // the windows that share the session, while it is started
     this.clientId = null;
     this.knownId = null; // the client id of the session that was last subscribed
     this.lastEventTime = 0; // when its last event arrived, or it was subscribed; Date.now()
@@ -410,50 +539,26 @@ class BayeuxClient {
     this.mayPublish = true; // whether no publish was forbidden since the last successful one
     this.hasBatches = false; // whether the server numbers its batches of events
     this.lastBatch = 0;
-    this.listeners = new Map(); // a list of listeners for each pattern
+    this.listeners = new Map(); // a list of `{ listener, fail }` for each pattern
     this.subscribed = new Set(); // the session's patterns that the server has accepted
-    this.sending = Promise.resolve(); // settles when all earlier requests are answered
+    this.outbox = new Outbox(this);
   }
-
-  /**
-   * Opens a session, or joins that of other windows, and keeps it until `stop`.
-   *
-   * The promise resolves once the client is connected and subscribed. It rejects if the client is
-   * stopped first: by `stop`, or because the server does not want it to try again.
-   */
   start() {
     if (this.opening !== null) return this.opening.promise;
     const opening = {};
     opening.promise = new Promise((resolve, reject) => Object.assign(opening, { resolve, reject }));
-    // A page that does not use the promise gets the reason from `onstate`.
     opening.promise.catch(() => {});
     this.opening = opening;
     this.watchPage();
     this.open();
     return opening.promise;
   }
-
-  /**
-   * Publishes `last`, a list of `{ channel, data }`, and ends the session unless other windows
-   * share it. Throws a TypeError if `last` is wrong.
-   */
-  stop(last = []) {
-    if (!Array.isArray(last)) throw argumentError('last', 'an array of messages', last);
-    last.forEach(({ channel, data }) => checkMessage(channel, data));
-    this.endSession(last);
-    this.leave();
-  }
-
-  // Opens or joins a session.
   open() {
     const start = ++this.starts;
     this.setState('connecting');
-    if (this.isShared) this.windows = new BayeuxWindows(this, () => this.run(start));
+    if (this.isShared) this.windows = new Windows(this, () => this.run(start));
     else this.run(start);
   }
-
-  // Stops when the user leaves the page, and starts again on return. Retries at once when the
-  // network is back, and when the user looks at the page.
   watchPage() {
     if (!IS_PAGE) return;
     this.watching = new AbortController();
@@ -461,141 +566,152 @@ class BayeuxClient {
     window.addEventListener('pagehide', () => this.suspend(), { signal });
     window.addEventListener('pageshow', ({ persisted }) => persisted && this.open(), { signal });
     window.addEventListener('online', () => this.retry(), { signal });
-    document.addEventListener('visibilitychange', () => document.hidden || this.retry(), { signal });
+    window.addEventListener('offline', () => this.connecting?.abort(offline()), { signal });
+    document.addEventListener('visibilitychange', () => this.look(), { signal });
   }
-
-  // Stops until the user returns to the page. The promise of `start` stays open.
   suspend() {
-    try {
-      this.endSession(this.onleave() ?? []);
-    } finally {
-      this.close();
-    }
+    const last = this.reports.leave();
+    if (this.clientId !== null) this.endAtOnce(this.outbox.takeOwn(), last, this.endOfSession(), this.clientId);
+    this.close();
   }
-
-  // Ends the pause after a failure. If another window has the session, that one retries.
   retry() {
     this.failures = 0;
-    this.endPause();
+    if (this.state !== 'connected') this.endPause();
     if (this.isLed()) this.windows.post('retry');
   }
-
-  // Publishes `last` and ends the session. The browser sends this even while the page unloads.
-  endSession(last) {
-    // All of it is one request, since the page gets no answer. A forbidden publish would make the
-    // server reject the whole request, with the disconnect.
-    const publishes = this.mayPublish ? last : [];
-    const messages = this.windows?.hasOthers() ? publishes : [...publishes, { channel: '/meta/disconnect' }];
-    if (this.clientId === null || messages.length === 0) return;
-    const body = JSON.stringify(messages.map((message) => ({ ...message, clientId: this.clientId })));
-    const isPolling = this.connectionType === 'long-polling';
-    const headers = isPolling ? { 'Content-Type': 'application/json', ...this.headers } : {};
-    // A beacon cannot have headers, and node has none. Another origin allows only plain text.
-    const isBeacon = (!isPolling || Object.keys(this.headers).length === 0) && 'sendBeacon' in (globalThis.navigator ?? {});
-    if (isBeacon) navigator.sendBeacon(this.url, isPolling ? new Blob([body], { type: 'application/json' }) : body);
-    else fetch(this.url, { method: 'POST', keepalive: true, headers, body }).catch(() => {});
+  look() {
+    if (this.isLed()) this.windows.post('look', { isVisible: isShown() });
+    else this.renew();
+    if (isShown()) this.retry();
   }
-
-  // Stops for the reason `why`.
-  leave(why) {
+  isVisible() {
+    return isShown() || this.windows?.looking.size > 0;
+  }
+  renew() {
+    if (this.hasBatches && this.hold > this.timeout && this.isVisible()) this.connecting?.abort(RENEWED);
+  }
+  endOfSession() {
+    return this.windows?.hasOthers() ? [] : [DISCONNECT];
+  }
+  endAtOnce(entries, last, end, clientId) {
+    const publishes = this.mayPublish ? last : [];
+    const sent = this.mayPublish ? this.outbox.take(entries, publishes.length + end.length, clientId) : [];
+    giveUp(sent, true);
+    giveUp(entries);
+    const messages = [...sent.map(({ message }) => message), ...publishes, ...end];
+    if (messages.length > 0) sendLast(this.url, this.connectionType, messages.map((it) => ({ ...it, clientId })), this.headersNow());
+  }
+  stop(last) {
+    const { clientId, outbox } = this;
+    const entries = outbox.takeOwn();
+    const end = this.endOfSession();
+    const result = clientId === null ? entries.length + last.length === 0 : this.end([...entries, ...last.map((message) => ({ message }))], end, clientId);
+    if (clientId === null) giveUp(entries);
+    this.leave();
+    return result;
+  }
+  async end(entries, end, clientId) {
+    const isAllowed = this.mayPublish;
+    const wanted = entries.length;
+    if (!isAllowed) giveUp(entries.splice(0));
+    const leaving = new AbortController();
+    const hasLeft = () => leaving.signal.aborted;
+    const leaveAtOnce = () => {
+      leaving.abort();
+      this.endAtOnce(entries.splice(0), [], end, clientId);
+    };
+    if (IS_PAGE) window.addEventListener('pagehide', leaveAtOnce, { signal: leaving.signal });
+    let isConfirmed = isAllowed || wanted === 0;
+    try {
+      if (this.outbox.isOpen) await this.outbox.sending;
+      while (entries.length + end.length > 0 && !hasLeft()) {
+        const some = this.outbox.take(entries, end.length, clientId);
+        if (entries.length === 0) leaving.abort();
+        isConfirmed = (await this.sendEnd(some, entries.length === 0 ? end : [], clientId)) && isConfirmed;
+        if (entries.length === 0) return isConfirmed;
+      }
+      return isConfirmed && !hasLeft();
+    } finally {
+      leaving.abort();
+    }
+  }
+  async sendEnd(entries, end, clientId) {
+    if (this.connectionType === 'long-polling' || end.length === 0) return this.outbox.request(entries, clientId, end, true);
+    giveUp(entries, true);
+    const messages = [...entries.map(({ message }) => message), ...end];
+    sendLast(this.url, this.connectionType, messages.map((it) => ({ ...it, clientId })), {});
+    return false;
+  }
+  leave(failure) {
     const { opening } = this;
     this.opening = null;
     this.watching?.abort();
-    this.close(why);
-    opening?.reject(new Error(why ?? 'stopped'));
+    this.close(failure);
+    giveUp(this.outbox.takeOwn());
+    this.listeners.forEach((all) => all.forEach(({ fail, accept }) => (fail ?? accept)?.(failure)));
+    opening?.reject(failure ?? stopped());
   }
-
-  close(why) {
+  close(failure) {
     this.starts++;
     this.endPause();
     this.windows?.leave();
     this.windows = null;
     this.clientId = null;
     this.knownId &&= 'left';
-    this.setState('stopped', why);
+    this.outbox.dropOthers();
+    this.setState('stopped', failure);
   }
-
-  /**
-   * Calls `listener(data, channel)` for each event that matches `pattern`.
-   *
-   * The promise rejects if the server rejects the pattern. Before `start` it resolves at once.
-   * Throws a TypeError if an argument is wrong.
-   */
-  subscribe(pattern, listener) {
-    checkChannel('pattern', pattern);
-    if (typeof listener !== 'function') throw argumentError('listener', 'a function', listener);
-    this.listeners.set(pattern, [...(this.listeners.get(pattern) || []), listener]);
-    return this.adjust();
+  async subscribe(pattern, entry) {
+    this.listeners.set(pattern, [...(this.listeners.get(pattern) || []), entry]);
+    entry.isWaiting = this.opening !== null;
+    try {
+      await this.adjust();
+      const isOpen = entry.isWaiting && this.opening !== null && this.listeners.get(pattern)?.includes(entry);
+      if (isOpen && !this.subscribed.has(pattern)) await new Promise((accept) => (entry.accept = accept));
+      if (entry.failure) throw entry.failure;
+    } finally {
+      entry.isWaiting = false;
+    }
   }
-
-  /** Removes this listener of `pattern`, or all if there is no `listener`. */
-  unsubscribe(pattern, listener) {
-    const others = (this.listeners.get(pattern) || []).filter((it) => listener && it !== listener);
+  unsubscribe(pattern, isGone) {
+    const all = this.listeners.get(pattern) || [];
+    const others = all.filter((it) => !isGone(it));
+    all.filter(isGone).forEach(({ accept }) => accept?.());
     if (others.length > 0) this.listeners.set(pattern, others);
     else this.listeners.delete(pattern);
     return this.adjust();
   }
-
-  /**
-   * Publishes `data` to `channel`.
-   *
-   * The promise rejects if the server rejects the publish, or if no reply arrives. Without a reply,
-   * `data` may have been published (`mayHaveArrived`): a page that repeats it may publish it twice.
-   * If publishing is forbidden here (`status` 403), it stays so, and the session continues.
-   * Throws a TypeError if an argument is wrong.
-   */
-  publish(channel, data) {
-    checkMessage(channel, data);
-    if (this.isLed()) {
-      if (this.clientId === null) return Promise.reject(failureOf('not connected', false));
-      return this.windows.ask('publish', { channel, data });
+  drop(failure) {
+    const entries = this.listeners.get(failure.pattern) || [];
+    this.listeners.delete(failure.pattern);
+    for (const entry of entries) {
+      entry.failure = failure;
+      (entry.fail ?? entry.accept)?.(failure);
     }
-    // A promise of its own, so that the console shows a failure that the page does not handle.
-    return this.send(channel, data).then();
+    if (entries.some(({ fail, isWaiting }) => !fail && !isWaiting)) this.report(this.state, failure);
   }
-
-  send(channel, data, atSending = () => {}) {
-    return this.inOrder(async () => {
-      if (this.clientId === null || this.isLed()) throw failureOf('not connected', false);
-      atSending();
-      try {
-        await this.ask({ channel, data });
-        this.setMayPublish(true);
-      } catch (failure) {
-        if (failure.status !== FORBIDDEN) throw failure;
-        this.setMayPublish(false);
-        throw failureOf(`publishing is not allowed here: ${failure.message}`, false, { status: FORBIDDEN });
-      }
-    });
+  confirmPatterns() {
+    for (const [pattern, entries] of this.listeners) if (this.subscribed.has(pattern)) entries.forEach(({ accept }) => accept?.());
   }
-
-  // Sets whether publishing is allowed. Sends a change to the other windows.
+  publish(message) {
+    if (this.isQueueing()) return this.outbox.length < this.queue ? this.outbox.publish(message) : Promise.reject(notConnected());
+    if (!this.isLed() || this.outbox.length > 0) return this.outbox.publish(message);
+    return this.clientId === null ? Promise.reject(notConnected()) : this.windows.ask('publish', message);
+  }
+  isQueueing() {
+    return this.queue > 0 && this.opening !== null && (this.clientId === null || this.state !== 'connected');
+  }
   setMayPublish(mayPublish) {
     if (mayPublish === this.mayPublish) return;
     this.mayPublish = mayPublish;
     this.windows?.shareState();
   }
-
-  // Returns whether another window has the session.
   isLed() {
     return this.windows !== null && !this.windows.isLeading;
   }
-
-  // Calls `action` once all earlier requests have succeeded or failed, so that publishes keep their
-  // order.
-  inOrder(action) {
-    const result = this.sending.then(action);
-    this.sending = result.catch(() => {});
-    return result;
+  adjust(isFirst = false) {
+    return this.isLed() ? this.windows.sendPatterns() : this.outbox.inOrder(() => this.askForPatterns(), isFirst || this.isQueueing());
   }
-
-  // Subscribes and unsubscribes as the listeners require. Without a session, `run` does this later.
-  adjust() {
-    return this.isLed() ? this.windows.sendPatterns() : this.inOrder(() => this.askForPatterns());
-  }
-
-  // Subscribes to the patterns that the session lacks, and unsubscribes from those that no window
-  // wants.
   async askForPatterns() {
     const wanted = new Set([...this.listeners.keys(), ...(this.windows?.patterns() || [])]);
     const missing = [...wanted].filter((it) => !this.subscribed.has(it));
@@ -604,65 +720,68 @@ class BayeuxClient {
       ...missing.map((subscription) => ({ channel: '/meta/subscribe', subscription })),
       ...spare.map((subscription) => ({ channel: '/meta/unsubscribe', subscription })),
     ];
-    while (this.clientId !== null && !this.isLed() && changes.length > 0) {
+    const { clientId } = this;
+    const failures = [];
+    while (clientId !== null && !this.isLed() && changes.length > 0) {
       const some = changes.splice(0, PATTERNS_AT_ONCE);
-      const replies = await this.askAll(some);
-      replies.forEach(({ successful }, index) => {
-        const { channel, subscription } = some[index];
-        if (channel === '/meta/unsubscribe') this.subscribed.delete(subscription);
-        else if (successful) this.subscribed.add(subscription);
-      });
-      const refused = replies.findIndex((reply) => !reply.successful);
-      if (refused < 0) continue;
-      const pattern = some[refused].subscription;
-      const text = `${pattern}: ${replies[refused].error}`;
-      const isGone = this.clientId === null || replies[refused].advice?.reconnect === 'handshake';
-      if (isGone) throw failureOf(text, false);
-      // An invalid pattern stays invalid, so its listeners are removed. (If the session is gone,
-      // the patterns are kept for the next one.)
-      this.listeners.delete(pattern);
-      this.windows?.refuse(pattern);
-      throw failureOf(text, false, { pattern });
+      const replies = await this.outbox.ask(some);
+      if (this.clientId !== clientId) return;
+      replies.forEach((reply, index) => failures.push(...this.applyReply(reply, some[index])));
     }
+    this.confirmPatterns();
+    if (failures.length > 0) throw failures[0];
   }
-
-  // Runs the client: one handshake, followed by one connect after another. After a failure it
-  // pauses, longer each time.
+  applyReply(reply, { channel, subscription }) {
+    const failure = reply.successful ? null : BayeuxError.ofReply(reply, subscription);
+    if (channel === '/meta/unsubscribe') {
+      this.subscribed.delete(subscription);
+      return failure ? [failure] : [];
+    }
+    if (!failure) this.subscribed.add(subscription);
+    else {
+      this.drop(failure);
+      this.windows?.refuse(failure);
+    }
+    return [];
+  }
   async run(start) {
     const isOver = () => this.starts !== start;
     while (!isOver()) {
       try {
         if (this.clientId === null) await this.handshake(isOver);
-        await this.adjust();
+        await this.adjust(true).catch((failure) => {
+          if (!failure.pattern) throw failure;
+        });
         if (isOver()) return;
-        // A publish can find meanwhile that the session is gone.
-        if (this.clientId === null) throw failureOf('402::Unknown client', false);
+        if (this.clientId === null) {
+          await this.pauseToRetry();
+          continue;
+        }
         this.recordSession(this.clientId);
         if (isOver()) return;
-        await this.connect();
+        if (!(await this.connect()) || this.clientId === null) continue;
         if (isOver()) return;
         this.setState('connected');
         this.failures = 0;
-        // Without an interval there is no pause: timers are slow in hidden pages, and a hidden page
-        // may be the leader.
-        if (this.advice.interval > 0) await pause(this.advice.interval);
+        if (this.advice.interval > 0) await this.pause(this.advice.interval);
       } catch (failure) {
         if (isOver()) return;
         if (failure.isFinal) {
-          this.leave(failure.message);
+          this.leave(failure);
           return;
         }
-        this.setState('interrupted', failure.message);
+        if (failure !== this.error) this.setState('interrupted', failure);
         if (isOver()) return;
-        const longest = Math.min(LONGEST_PAUSE, FIRST_PAUSE * 2 ** this.failures++);
-        // A random length, so that not all clients return at once when a server restarts.
-        await this.waitToRetry(longest * (0.5 + Math.random() / 2));
+        this.outbox.giveUpRepeats();
+        await this.pauseToRetry();
       }
     }
   }
-
-  // Waits for some milliseconds, or until `endPause` is called.
-  waitToRetry(milliseconds) {
+  pauseToRetry() {
+    const longest = Math.min(this.maxPause, this.minPause * 2 ** this.failures++);
+    return this.pause(longest * (0.5 + Math.random() / 2));
+  }
+  pause(milliseconds) {
     return new Promise((resolve) => {
       const timer = setTimeout(resolve, milliseconds);
       this.endPause = () => {
@@ -671,10 +790,11 @@ class BayeuxClient {
       };
     });
   }
-
   async handshake(isOver) {
     const supportedConnectionTypes = [this.connectionType];
-    const ext = { ack: true, name: this.name };
+    const own = typeof this.ext === 'function' ? await this.extensions() : this.ext;
+    if (isOver()) return;
+    const ext = { ...own, ack: true, name: this.name };
     const message = { channel: '/meta/handshake', version: '1.0', supportedConnectionTypes, ext };
     const reply = await this.ask(message);
     if (isOver()) return;
@@ -683,8 +803,13 @@ class BayeuxClient {
     this.hasBatches = reply.ext?.ack === true;
     this.lastBatch = 0;
   }
-
-  // Records that session `id` is subscribed. Calls `ongap` if it replaces an earlier one.
+  async extensions() {
+    try {
+      return await this.ext();
+    } catch (cause) {
+      throw new BayeuxError('network', cause.message, { cause });
+    }
+  }
   recordSession(id) {
     if (id === this.knownId || id === null) return;
     const hadOne = this.knownId !== null;
@@ -692,106 +817,263 @@ class BayeuxClient {
     this.knownId = id;
     this.lastEventTime = Date.now();
     this.windows?.shareState();
-    if (hadOne) callSafely(() => this.ongap(since));
+    if (hadOne) this.reports.gap(since);
   }
-
-  // Sends a connect. The server holds it until there is an event, or until its timeout has passed.
   async connect() {
     const message = { channel: '/meta/connect', connectionType: this.connectionType };
-    // Each connect acknowledges the last batch that arrived. The events of a lost response are not
-    // acknowledged, so the server sends them again.
     if (this.hasBatches) message.ext = { ack: this.lastBatch };
-    // Until the client is connected, the server must not hold the connect, so that the page learns
-    // at once that it is connected.
     const isHeld = this.state === 'connected';
-    if (!isHeld) message.advice = { timeout: 0 };
-    await this.ask(message, isHeld ? this.advice.timeout : 0);
+    const { timeout = 0 } = this.advice;
+    this.hold = !isHeld ? 0 : this.isVisible() ? Math.min(timeout, this.timeout) : timeout;
+    if (!isHeld || this.hold < timeout) message.advice = { timeout: this.hold };
+    const connecting = new AbortController();
+    this.connecting = connecting;
+    try {
+      await this.ask(message, { hold: this.hold, signal: connecting.signal });
+      return true;
+    } catch (failure) {
+      if (failure !== RENEWED) throw failure;
+      return false;
+    } finally {
+      if (this.connecting === connecting) this.connecting = null;
+    }
   }
-
-  // Sends one message, and returns the reply. Fails if the server rejects it. `hold`: milliseconds
-  // for which the server may hold it.
-  async ask(message, hold = 0) {
-    const [reply] = await this.askAll([message], hold);
-    this.advice = { ...this.advice, ...reply.advice };
+  async ask(message, how) {
+    const [reply] = await this.askAll([message], how);
+    if (!reply) throw new BayeuxError('protocol', 'the response lacks a reply', { mayHaveArrived: true });
     if (reply.successful) return reply;
-    throw failureOf(reply.error, false, { isFinal: reply.advice?.reconnect === 'none' });
+    throw BayeuxError.ofReply(reply);
   }
-
-  // Sends messages, passes events to their listeners, and returns the replies.
-  async askAll(messages, hold = 0) {
-    const { clientId } = this;
+  async askAll(messages, { clientId = this.clientId, ...how } = {}) {
     const begin = Date.now();
-    if (clientId !== null) messages.forEach((message) => (message.clientId = clientId));
-    const items = await this.items(messages, hold);
+    const sent = clientId === null ? messages : messages.map((message) => ({ ...message, clientId }));
+    const items = await this.items(sent, how);
     const replies = items.filter((item) => 'successful' in item);
-    // The client has left this session meanwhile, so its events are ignored.
     if (clientId !== this.clientId) return replies;
+    replies.forEach(({ advice }) => (this.advice = { ...this.advice, ...advice }));
     const isAnswered = clientId !== null && clientId === this.knownId && replies.some((reply) => reply.successful);
     if (isAnswered && this.why === NO_ANSWER) this.setState('connected');
     for (const { ext } of replies) if (typeof ext?.ack === 'number') this.lastBatch = ext.ack;
     const events = items.filter((item) => !('successful' in item));
     events.forEach((event) => this.deliver(event));
-    // A frozen page gets a response long after it came. Events may be missing since the request.
     if (events.length > 0) this.lastEventTime = begin;
     if (events.length > 0) this.windows?.shareState(events);
-    if (clientId !== null && replies.some((reply) => reply.advice?.reconnect === 'handshake')) {
-      // The session is gone, but the server can be reached. So the next pause may be short.
-      this.clientId = null;
-      this.failures = 0;
-    }
+    const lost = clientId !== null && replies.find((reply) => reply.advice?.reconnect === 'handshake');
+    if (lost) this.lose(lost, messages[0].channel === '/meta/connect');
     return replies;
   }
-
-  async items(messages, hold) {
+  lose(reply, isOfConnect) {
+    this.clientId = null;
+    this.failures = 0;
+    if (isOfConnect) return;
+    this.setState('interrupted', BayeuxError.ofReply(reply));
+    this.connecting?.abort(RENEWED);
+    this.endPause();
+  }
+  async items(messages, { hold = 0, isLast, signal }) {
+    const { ask } = TRANSPORTS[this.connectionType];
     try {
-      return await TRANSPORTS[this.connectionType](this.url, messages, hold + NETWORK_TIMEOUT, this.headers);
+      let headers = this.connectionType === 'long-polling' ? this.askForHeaders() : {};
+      if (typeof headers?.then === 'function') this.lastHeaders = headers = await headers;
+      const items = await ask(this.url, messages, { timeout: hold + this.maxNetworkDelay, headers, isLast, signal });
+      if (!Array.isArray(items)) throw new BayeuxError('protocol', 'the response is no list of messages', { mayHaveArrived: true });
+      return items;
     } catch (failure) {
-      if (failure.message === NO_ANSWER && this.state === 'connected') this.setState('interrupted', NO_ANSWER);
-      throw failureOf(failure.message, failure.mayHaveArrived ?? true, { status: failure.status });
+      if (failure.message === NO_ANSWER && this.state === 'connected') this.setState('interrupted', failure);
+      throw failure instanceof BayeuxError ? failure : new BayeuxError('network', failure.message, { mayHaveArrived: false, cause: failure });
     }
   }
-
-  // Applies the leader's state, session and events. With a new leader, a batch may arrive twice.
-  mirror({ state, why, knownId, session, subscribed, events }) {
+  askForHeaders() {
+    return typeof this.headers === 'function' ? this.headers() : this.headers;
+  }
+  headersNow() {
+    const headers = this.askForHeaders();
+    if (typeof headers?.then !== 'function') return headers ?? {};
+    headers.then(undefined, () => {});
+    return this.lastHeaders;
+  }
+  mirror({ state, error, knownId, session, subscribed, events }) {
     const isNew = session.clientId !== this.clientId || !session.hasBatches || session.lastBatch > this.lastBatch;
     this.recordSession(knownId);
     Object.assign(this, session, isNew ? {} : { lastBatch: this.lastBatch });
     this.subscribed = new Set(subscribed);
+    this.confirmPatterns();
     if (isNew) events.forEach((event) => this.deliver(event));
-    this.setState(state, why);
+    this.setState(state, error && BayeuxError.from(error));
   }
-
   deliver({ channel, data }) {
-    for (const [pattern, listeners] of this.listeners) {
+    for (const [pattern, entries] of this.listeners) {
       if (!isMatch(pattern, channel)) continue;
-      // Each call is its own task, so that a listener that throws does not stop the others.
-      listeners.forEach((listener) => queueMicrotask(() => listener(data, channel)));
+      entries.forEach(({ listener }) => queueMicrotask(() => callSafely(() => listener(data, channel))));
     }
   }
-
-  setState(state, why = '') {
+  setState(state, error) {
+    const why = error?.message ?? '';
     if (state === this.state && !why) return;
-    this.state = state;
-    this.why = why;
+    Object.assign(this, { state, why, error });
     this.windows?.shareState();
-    if (state === 'connected') this.confirmStart();
-    callSafely(() => this.onstate(state, why));
+    if (state === 'connected') {
+      this.confirmStart();
+      this.outbox.send();
+    }
+    this.report(state, error);
   }
-
-  // Resolves the promise of `start`. If another window has the session, that one first has to
-  // subscribe to the patterns of this window.
+  report(state, error) {
+    this.reports.state(state, error?.message ?? '', error);
+  }
   async confirmStart() {
     const { opening } = this;
     if (opening === null || opening.isConfirmed) return;
     try {
       if (this.isLed()) await this.windows.sendPatterns();
-    } catch (failure) {
-      // A rejected pattern is removed. After any other failure, the next connection resolves it.
-      if (!failure.pattern) return;
+    } catch {
+      return;
     }
     opening.isConfirmed = true;
     opening.resolve();
   }
 }
 
+function eventsOf(session, pattern, signal) {
+  const arrived = [];
+  const asked = [];
+  let end = null; // what `next` returns after the last event, or throws
+  const finish = (failure) => {
+    if (end !== null) return;
+    end = { failure };
+    signal?.removeEventListener('abort', abort);
+    session.unsubscribe(pattern, (it) => it === entry).catch(() => {});
+    asked.splice(0).forEach(({ resolve, reject }) => settle(resolve, reject));
+  };
+  const settle = (resolve, reject) => {
+    const { failure } = end;
+    end.failure = undefined;
+    if (failure) reject(failure);
+    else resolve({ value: undefined, done: true });
+  };
+  const abort = () => finish();
+  const entry = {
+    listener: (data, channel) => {
+      if (end !== null) return;
+      const value = { channel, data };
+      if (asked.length > 0) asked.shift().resolve({ value, done: false });
+      else arrived.push(value);
+    },
+    fail: finish,
+  };
+  session.subscribe(pattern, entry).catch((failure) => failure.pattern && finish(failure));
+  if (signal?.aborted) finish();
+  else signal?.addEventListener('abort', abort, { once: true });
+  return {
+    next: () => new Promise((resolve, reject) => {
+      if (arrived.length > 0) resolve({ value: arrived.shift(), done: false });
+      else if (end !== null) settle(resolve, reject);
+      else asked.push({ resolve, reject });
+    }),
+    return: async (value) => {
+      arrived.splice(0);
+      finish();
+      return { value, done: true };
+    },
+    [Symbol.asyncIterator]() {
+      return this;
+    },
+  };
+}
+
+let sessionOf;
+class BayeuxClient extends EventTarget {
+  static BayeuxError = BayeuxError;
+  onstate = () => {};
+  ongap = () => {};
+  onleave = () => [];
+  #session;
+  #reports = [];
+  static {
+    sessionOf = (client) => client.#session;
+  }
+  constructor(url, options = {}) {
+    const given = typeof options === 'string' ? { connectionType: options } : options;
+    checkOptions(given);
+    const address = addressOf(url);
+    super();
+    this.#session = new Session(url, address, given, {
+      state: (...args) => this.#reportState(...args),
+      gap: (since) => this.#report('gap', { since }, () => this.ongap(since)),
+      leave: () => this.#lastMessages(),
+    });
+  }
+  get url() {
+    return this.#session.url;
+  }
+  get connectionType() {
+    return this.#session.connectionType;
+  }
+  get state() {
+    return this.#session.state;
+  }
+  get clientId() {
+    return this.#session.clientId;
+  }
+  get headers() {
+    return this.#session.headers;
+  }
+  set headers(headers) {
+    checkHeaders('headers', headers);
+    this.#session.headers = headers;
+  }
+  start() {
+    return this.#session.start();
+  }
+  stop(last = []) {
+    return Promise.resolve(this.#session.stop(messagesOf(last)));
+  }
+  subscribe(pattern, listener, { signal } = {}) {
+    checkChannel('pattern', pattern);
+    checkListener(listener);
+    checkSignal(signal);
+    if (signal?.aborted) return Promise.resolve();
+    const entry = { listener };
+    signal?.addEventListener('abort', () => this.#session.unsubscribe(pattern, (it) => it === entry).catch(() => {}), { once: true });
+    return this.#session.subscribe(pattern, entry);
+  }
+  unsubscribe(pattern, listener) {
+    return this.#session.unsubscribe(pattern, (it) => !listener || it.listener === listener);
+  }
+  events(pattern, { signal } = {}) {
+    checkChannel('pattern', pattern);
+    checkSignal(signal);
+    return eventsOf(this.#session, pattern, signal);
+  }
+  publish(channel, data) {
+    return this.#session.publish(messageOf(channel, data));
+  }
+  addEventListener(type, listener, options) {
+    super.addEventListener(type, safeListener(listener), options);
+  }
+  removeEventListener(type, listener, options) {
+    super.removeEventListener(type, safeListener(listener), options);
+  }
+  #lastMessages() {
+    let last = [];
+    callSafely(() => {
+      last = messagesOf(this.onleave() ?? []);
+    });
+    return last;
+  }
+  #reportState(state, why, error) {
+    this.#report('state', { state, why, error }, () => this.onstate(state, why));
+    if (error) this.#report('error', { error });
+  }
+  #report(type, members, handler = () => {}) {
+    this.#reports.push([Object.assign(new Event(type), members), handler]);
+    if (this.#reports.length > 1) return;
+    for (; this.#reports.length > 0; this.#reports.shift()) {
+      const [[event, call]] = this.#reports;
+      callSafely(call);
+      this.dispatchEvent(event);
+    }
+  }
+}
 globalThis.BayeuxClient ??= BayeuxClient;
+})();

@@ -44,43 +44,51 @@ function isAddress(address) {
   return URL.canParse(address, own) && /^https?:$/.test(new URL(address, own).protocol);
 }
 
-/** Returns whether `why` is the error of a reply, such as `503::Too many sessions`. */
-const isError = (why) => /^\d{3}::/.test(why);
-
-/** Returns the HTTP status in the text of a failure, such as 404, or NaN if it has none. */
-const statusOf = (why) => Number((why.match(/^HTTP status (\d+)$/) || [])[1]);
-
 // Returns whether a failure may last. It is then shown even if the page was connected before.
-const isLasting = (why) => why === NO_ANSWER || [401, 403, 429].includes(statusOf(why));
+const isLasting = ({ code, status }) => code === 'timeout' || [401, 403, 429].includes(status);
 
-/** Returns the text for a state other than `connected`. `why`: its reason. */
-function stateText(state, why, wasConnected) {
-  if (state === 'interrupted' && why === NO_ANSWER) return STATE_TEXTS.unanswered;
-  if (state === 'interrupted' && isLasting(why)) return STATE_TEXTS.rejected;
-  if (state !== 'interrupted' || wasConnected) return STATE_TEXTS[state];
-  if (statusOf(why) === TOO_LATE) return STATE_TEXTS.unanswered;
-  const isRejected = isError(why) || (statusOf(why) && statusOf(why) !== NOT_RUNNING);
+/** Returns the text for a state other than `connected`. `error`: the reason for `interrupted`. */
+function stateText(state, error, wasConnected) {
+  if (state !== 'interrupted') return STATE_TEXTS[state];
+  const { code, status } = error;
+  if (code === 'timeout') return STATE_TEXTS.unanswered;
+  if (isLasting(error)) return STATE_TEXTS.rejected;
+  if (wasConnected) return STATE_TEXTS[state];
+  if (status === TOO_LATE) return STATE_TEXTS.unanswered;
+  const isRejected = code === 'rejected' || (status && status !== NOT_RUNNING);
   return isRejected ? STATE_TEXTS.rejected : STATE_TEXTS.unreached;
 }
 
 /** Returns a text about what is wrong if the page cannot connect to `address`, and what to do. */
-function connectionError(address, why) {
+function connectionError(address, { code, status, message } = {}) {
   if (!isAddress(address)) {
     return `“${address}” is not a server address. Add one to this page’s address, such as ?server=http://127.0.0.1:8087/cometd.`;
   }
-  const status = statusOf(why);
   if (status) return `${address} answers with status ${status}: it ${STATUS_TEXTS[status] || WRONG_PATH_TEXT}`;
-  if (isError(why)) return `The server at ${address} rejects this page: ${why}. This page tries again.`;
-  if (why === NO_ANSWER) {
+  if (code === 'rejected') return `The server at ${address} rejects this page: ${message}. This page tries again.`;
+  if (code === 'timeout') {
     return `No answer from ${address} for ten seconds. The network or the server is slow, or too many windows are open: a browser has six connections to a server, and each window can take one.`;
   }
   return `No Bayeux server answers this page at ${address}. Start bayeuxd there, or ${OTHER_SERVER_TEXT}`;
 }
 
-/** Returns the text about the failure of a publish. */
-function publishErrorText({ message, mayHaveArrived, status }) {
-  if (status === 403) return 'Not sent: pages may only read here, or the server rejects this one. Sending it again does not help.';
-  return mayHaveArrived ? 'No answer: it may have been sent.' : `Not sent: ${message}`;
+// Why something was not sent, by the HTTP status, the number of the server's error, or the code.
+const NOT_SENT_TEXTS = {
+  401: 'you are not logged in. Log in, then reload this page.',
+  403: 'pages may only read here, or the server rejects this one. Sending it again does not help.',
+  413: 'it is too long. Send less at once.',
+  429: 'the server allows no more requests at the moment. Send it again later.',
+  402: 'the server has ended the session, and a new one begins. Send it again.',
+  disconnected: 'this page is not connected. Send it again once it is.',
+  stopped: 'this page was left.',
+};
+
+/** Returns a sentence about the failure of a publish. */
+function publishErrorText({ code, message, mayHaveArrived, status, reply }) {
+  if (mayHaveArrived && status !== 403) return 'No answer: it may have been sent.';
+  const text = NOT_SENT_TEXTS[status] ?? NOT_SENT_TEXTS[reply] ?? NOT_SENT_TEXTS[code];
+  if (text) return `Not sent: ${text}`;
+  return `Not sent: the server does not accept it (${message}). Sending it again does not help.`;
 }
 
 function formatNumber(value) {
@@ -106,18 +114,18 @@ function newClient() {
   const address = serverAddress();
   const client = new BayeuxClient(isAddress(address) ? address : DEFAULT_ADDRESS);
   let wasConnected = false;
-  client.onstate = (state, why) => {
+  client.addEventListener('state', ({ state, why, error }) => {
     const isConnected = state === 'connected';
     wasConnected ||= isConnected;
     element('state').className = state;
-    element('state').textContent = isConnected ? 'connected' : stateText(state, why, wasConnected);
+    element('state').textContent = isConnected ? 'connected' : stateText(state, error, wasConnected);
     element('state').title = isConnected ? client.connectionType : why;
     if (isConnected) showError('');
-    else if (state === 'interrupted' && (!wasConnected || isLasting(why))) showError(connectionError(address, why));
-  };
+    else if (state === 'interrupted' && (!wasConnected || isLasting(error))) showError(connectionError(address, error));
+  });
   if (!isAddress(address)) {
     client.start = () => {};
-    showError(connectionError(address, ''));
+    showError(connectionError(address));
   }
   return client;
 }

@@ -139,7 +139,7 @@ function formatBrief(value) {
 
 const client = newClient();
 
-client.ongap = () => gaps++;
+client.addEventListener('gap', () => gaps++);
 client.subscribe(PATTERN, (data, channel) => {
   if (typeof data !== 'number') return;
   element('empty').hidden = true;

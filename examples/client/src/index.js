@@ -1,0 +1,3 @@
+// A Bayeux 1.0 client without dependencies, for web pages and node.
+export { BayeuxClient, BayeuxClient as default } from './client.js';
+export { BayeuxError } from './errors.js';

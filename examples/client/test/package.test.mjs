@@ -1,0 +1,191 @@
+// The package as npm installs it into an empty project: what it has, what it defines, its types, and that it works with a real server.
+import assert from 'node:assert/strict';
+import { execFileSync, spawn } from 'node:child_process';
+import { once } from 'node:events';
+import { existsSync, mkdirSync, mkdtempSync, readFileSync, rmSync, symlinkSync, writeFileSync } from 'node:fs';
+import { createRequire } from 'node:module';
+import { createServer } from 'node:net';
+import { tmpdir } from 'node:os';
+import { join } from 'node:path';
+import { after, before, describe, it } from 'node:test';
+import { fileURLToPath } from 'node:url';
+import vm from 'node:vm';
+import { gzipSync } from 'node:zlib';
+import { BayeuxClient } from '../bayeux-module.js';
+
+const FOLDER = fileURLToPath(new URL('..', import.meta.url));
+const has = (program) => (process.env.PATH ?? '').split(':').some((folder) => existsSync(join(folder, program)));
+// The largest script for pages, compressed.
+const MOST_BYTES = 12 * 1024;
+
+let project;
+let installed; // the folder of the package
+let packed; // its name, version and files, and its bytes
+const read = (name) => readFileSync(join(installed, name), 'utf8');
+// Runs a command in the project, or in `cwd`, and returns what it prints.
+const run = (command, args, cwd = project) => execFileSync(command, args, { cwd, encoding: 'utf8', stdio: ['ignore', 'pipe', 'inherit'] });
+const npm = (...args) => run('npm', [...args, '--silent', '--offline', '--cache', join(project, 'cache')]);
+// Packs the package. Without npm, the project has a link to the folder.
+function pack() {
+  const [found] = JSON.parse(npm('pack', FOLDER, '--json'));
+  return { ...found, content: readFileSync(join(project, found.filename)) };
+}
+before(() => {
+  project = mkdtempSync(join(tmpdir(), 'gadzilk-'));
+  installed = join(project, 'node_modules/gadzilk-client');
+  writeFileSync(join(project, 'package.json'), '{ "type": "module" }');
+  if (has('npm')) {
+    packed = pack();
+    npm('install', packed.filename);
+  } else {
+    mkdirSync(join(project, 'node_modules'));
+    symlinkSync(FOLDER, installed);
+  }
+});
+after(() => rmSync(project, { recursive: true }));
+
+const NO_COMPILER = 'there is no tsc (node-typescript)';
+// Fails if the compiler finds errors in files of the project.
+function compile(...args) {
+  try {
+    run('tsc', ['--noEmit', '--target', 'es2022', '--lib', 'es2022,dom,dom.iterable', '--module', 'nodenext', '--moduleResolution', 'nodenext', ...args]);
+  } catch ({ stdout }) {
+    // In JavaScript, one may look into data without a check.
+    assert.deepEqual(stdout.split('\n').filter((it) => it && !/^\S+\.js\S+ error .* on type 'unknown'/.test(it)), []);
+  }
+}
+
+describe('the package', () => {
+  it('is built from its sources', () => {
+    execFileSync('node', [join(FOLDER, 'build.mjs'), '--check']);
+  });
+
+  it('is packed with its files, and no others, into the same bytes', { skip: !has('npm') && 'there is no npm' }, () => {
+    assert.ok(pack().content.equals(packed.content));
+    const { name, version, files } = packed;
+    assert.deepEqual([name, version], ['gadzilk-client', readFileSync(join(FOLDER, '../../VERSION'), 'utf8').trim()]);
+    const paths = files.map(({ path }) => path);
+    const { exports, main, module, types } = JSON.parse(read('package.json'));
+    const namesIn = (it) => (typeof it === 'string' ? [it.replace('./', '')] : Object.values(it).flatMap(namesIn));
+    assert.deepEqual(namesIn([main, module, types, exports]).filter((it) => !paths.includes(it)), []);
+    assert.deepEqual(paths.filter((it) => /test|build/.test(it)), []);
+  });
+
+  it('can be imported and required, and defines nothing globally', async () => {
+    const names = Object.getOwnPropertyNames(globalThis);
+    const required = createRequire(join(project, 'x.cjs'))('gadzilk-client');
+    assert.deepEqual(Object.keys(required).sort(), ['BayeuxClient', 'BayeuxError', 'default']);
+    for (const file of ['bayeux-module.js', 'src/index.js']) {
+      const imported = await import(join(installed, file));
+      assert.ok(imported.BayeuxClient.BayeuxError === imported.BayeuxError && imported.default === imported.BayeuxClient, file);
+    }
+    assert.deepEqual(Object.getOwnPropertyNames(globalThis), names);
+  });
+
+  it('as a script is small and defines only BayeuxClient, also twice, beside a page that has the same names', () => {
+    const context = vm.createContext({ URL, EventTarget, Event });
+    const before = Object.getOwnPropertyNames(context);
+    vm.runInContext("const pause = 1, isMatch = 2, TRANSPORTS = 3, Session = 4, check = 5;", context);
+    for (const _ of [1, 2]) vm.runInContext(read('bayeux.js'), context);
+    const names = Object.getOwnPropertyNames(context).filter((it) => !before.includes(it));
+    assert.deepEqual(names, ['BayeuxClient']);
+    const { length } = gzipSync(read('bayeux.js'), { level: 9 });
+    assert.ok(length < MOST_BYTES, `${length} bytes`);
+  });
+
+  it('has no public members but the documented ones', () => {
+    const client = new BayeuxClient('http://127.0.0.1/cometd');
+    const names = [...Object.getOwnPropertyNames(client), ...Object.getOwnPropertyNames(BayeuxClient.prototype)].sort();
+    const documented = 'addEventListener clientId connectionType constructor events headers ongap onleave onstate publish removeEventListener start state stop subscribe unsubscribe url';
+    assert.deepEqual(names, documented.split(' '));
+  });
+
+  it('has types that a strict compiler takes, for modules and for CommonJS', { skip: !has('tsc') && NO_COMPILER }, () => {
+    const uses = `
+      import { BayeuxClient, BayeuxError, type State } from 'gadzilk-client';
+      const client = new BayeuxClient('http://127.0.0.1/cometd', { headers: async () => ({ a: 'b' }), ext: { token: 1 }, queue: 3, timeout: 1, maxNetworkDelay: 1 });
+      client.addEventListener('state', ({ state, why, error }) => { const it: State = state; const text: string = why; const code: BayeuxError['code'] | undefined = error?.code; const reason: string | undefined = error?.reason; void [it, text, code, reason]; });
+      client.addEventListener('gap', ({ since }) => since.getTime(), { once: true });
+      client.addEventListener('error', ({ error }) => { if (error.code === 'forbidden') throw error; });
+      client.ongap = (since) => { since.toISOString(); };
+      client.onleave = () => [{ channel: '/a', data: 1 }];
+      client.headers = { a: 'b' };
+      export async function use(): Promise<boolean> {
+        await client.start();
+        await client.subscribe<{ text: string }>('/a', ({ text }, channel) => { const it: string = text + channel; void it; }, { signal: new AbortController().signal });
+        for await (const { channel, data } of client.events<number>('/a')) { const it: number = data; const name: string = channel; void [it, name]; }
+        // @ts-expect-error: the state cannot be set
+        client.state = 'connected';
+        // @ts-expect-error: an option that is unknown
+        new BayeuxClient('/cometd', { header: {} });
+        // @ts-expect-error: data may be anything, so it has to be checked
+        client.subscribe('/a', (data) => data.text);
+        return client.stop([{ channel: '/a', data: null }]);
+      }`;
+    for (const name of ['uses.mts', 'uses.cts']) writeFileSync(join(project, name), uses);
+    writeFileSync(join(project, 'page.ts'), `/// <reference types="gadzilk-client/bayeux.js" />\nconst client: BayeuxClient = new BayeuxClient('/cometd');\nclient.publish('/a', 1);\n`);
+    compile('--strict', 'uses.mts', 'uses.cts', 'page.ts');
+  });
+
+  it('has what the examples of the documents use, which a compiler takes', { skip: !has('tsc') && NO_COMPILER }, () => {
+    const pages = ['../../docs/CLIENT.md', 'README.md'].map((it) => readFileSync(join(FOLDER, it), 'utf8')).join('\n');
+    const examples = [...pages.matchAll(/^```(js|jsx|ts|vue)\n([^]*?)^```$/gm)].map(([, kind, text], at) => {
+      const script = /(?<=^<script setup>)[^]*(?=^<\/script>)/m.exec(text)?.[0] ?? text.replace('./client/bayeux-module.js', 'gadzilk-client');
+      const own = /\bclient\b/.test(script) && !/(const|import) .*\bclient\b.* (=|from) /.test(script) ? "const client = new BayeuxClient('/cometd');\n" : '';
+      const name = `example-${at}.${{ vue: 'js', ts: 'mts' }[kind] ?? kind}`;
+      writeFileSync(join(project, name), `${own}${script}\nexport {};\n`);
+      return name;
+    });
+    // What the examples take from elsewhere. `client` of another file has the type of the client.
+    writeFileSync(join(project, 'bayeux.js'), "import { BayeuxClient } from 'gadzilk-client';\nexport const client = new BayeuxClient('/cometd');\n");
+    writeFileSync(join(project, 'others.d.ts'), `/// <reference types="gadzilk-client/bayeux.js" />
+      declare module 'react'; declare module 'vue'; declare module 'vite';
+      declare namespace JSX { interface IntrinsicElements { [name: string]: any } }
+      declare const Presence: any, defineProps: any, draw: any, show: any, text: string;`);
+    assert.ok(examples.length > 8);
+    compile('--allowJs', '--checkJs', '--jsx', 'preserve', '--skipLibCheck', 'others.d.ts', ...examples);
+  });
+});
+
+// BAYEUXD: the path of a bayeuxd.
+describe('with a server', { skip: !process.env.BAYEUXD && 'BAYEUXD names no server' }, () => {
+  let daemon;
+  let address;
+  before(async () => {
+    const listener = createServer().listen(0, '127.0.0.1');
+    await once(listener, 'listening');
+    const { port } = listener.address();
+    await once(listener.close(), 'close');
+    daemon = spawn(process.env.BAYEUXD, ['--listen', `127.0.0.1:${port}`, '--no-callback-polling', '--sessions', '2'], { stdio: ['ignore', 'pipe', 'ignore'] });
+    await once(daemon.stdout, 'data');
+    address = `http://127.0.0.1:${port}/cometd`;
+  });
+  after(() => daemon.kill());
+
+  it('publishes the message of the example in docs/CLIENT.md, imported and required, and many others', async () => {
+    const examples = readFileSync(join(FOLDER, '../../docs/CLIENT.md'), 'utf8').match(/(?<=^```js\n)[^]*?(?=^```$)/gm);
+    const [text, ...others] = examples.filter((it) => it.includes("from 'gadzilk-client'"));
+    const [own, ...rest] = text.replace('http://127.0.0.1:8087/cometd', address).split('\n');
+    assert.deepEqual([others, own], [[], "import { BayeuxClient } from 'gadzilk-client';"]);
+    writeFileSync(join(project, 'example.mjs'), [own, ...rest].join('\n'));
+    writeFileSync(join(project, 'example.cjs'), `const { BayeuxClient } = require('gadzilk-client');\n(async () => {${rest.join('\n')}})();`);
+    const reader = new BayeuxClient(address);
+    const events = reader.events('/chat/*');
+    await reader.start();
+    // Each opens the second session of a server that takes two.
+    for (const name of ['example.mjs', 'example.cjs']) {
+      assert.equal(run('node', [name]), '');
+      assert.deepEqual((await events.next()).value, { channel: '/chat/hall', data: { text: 'Hello' } });
+    }
+    // The events of many publishes arrive once and in order.
+    const writer = new BayeuxClient(address);
+    await writer.start();
+    for (let number = 0; number < 1000; number++) writer.publish('/chat/many', number);
+    assert.equal(await writer.stop([{ channel: '/chat/many', data: 'last' }]), true);
+    const found = [];
+    for await (const { data } of events) if (found.push(data) && data === 'last') break;
+    assert.deepEqual(found, [...Array(1000).keys(), 'last']);
+    const { code, reply } = await reader.publish('/chat/*', 1).catch((it) => it);
+    assert.deepEqual([code, reply, await reader.stop()], ['rejected', 400, true]);
+  });
+});

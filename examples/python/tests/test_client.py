@@ -1,0 +1,353 @@
+"""The client with a server that follows a script."""
+from __future__ import annotations
+
+import asyncio
+import datetime
+import http.client
+import itertools
+import logging
+import threading
+from typing import Any
+
+import pytest
+from servers import PATIENCE, Script, rejected, unknown
+
+from gadzilk_client import Client, Event, Forbidden, HTTPStatus, InvalidResponse, Rejected, Unreachable
+from gadzilk_client.aio import AsyncClient
+
+
+def events(*data: Any) -> list[dict[str, Any]]:
+    return [{"channel": "/a", "data": it} for it in data]
+
+
+def take(count: int, client: Client, *patterns: str) -> list[Any]:
+    """Returns the data of the next events."""
+    listening = client.listen(*patterns or ("/a",))
+    try:
+        return [it.data for it in itertools.islice(listening, count)]
+    finally:
+        listening.close()  # type: ignore[attr-defined]
+
+
+class TestRequests:
+    def test_each_message_of_a_session(self, script: Script) -> None:
+        script.batches = [events(1, 2)]
+        with Client(script.url, name="Ben") as client:
+            client.publish("/b", {"text": "ü"})
+            assert take(2, client, "/a", "/c/*") == [1, 2]
+            assert client.client_id == "session 1"
+        own = {"clientId": "session 1"}
+        assert script.requests == [
+            [{"channel": "/meta/handshake", "version": "1.0", "supportedConnectionTypes": ["long-polling"], "ext": {"ack": True, "name": "Ben"}}],
+            [{"channel": "/b", "data": {"text": "ü"}, **own}],
+            [{"channel": "/meta/subscribe", "subscription": ["/a", "/c/*"], **own}],
+            [{"channel": "/meta/connect", "connectionType": "long-polling", "ext": {"ack": 0}, **own}],
+            [{"channel": "/meta/disconnect", **own}],
+        ]
+
+    def test_connections_are_kept(self, script: Script, client: Client) -> None:
+        script.batches = [events(it) for it in range(20)]
+        for number in range(20):
+            client.publish("/b", number)
+        assert take(20, client) == list(range(20))
+        assert len(script.connections) == 2
+
+    def test_a_connection_that_the_server_has_closed_is_opened_again(self, script: Script, client: Client) -> None:
+        client.publish("/b", 1)
+        client._others._connection.sock.shutdown(2)  # type: ignore[union-attr]
+        client.publish("/b", 2)
+        assert script.data("/b") == [[1], [2]]
+
+    def test_headers_and_ext_are_asked_for_each_time(self, script: Script) -> None:
+        tokens, exts = itertools.count(), itertools.count(5)
+        with Client(script.url, headers=lambda: {"X-Token": str(next(tokens))}, ext=lambda: {"token": next(exts)}) as client:
+            client.publish("/b", 1)
+            script.next("/b", unknown("/b"))
+            client.publish("/b", 2)
+        assert [it["X-Token"] for it in script.heads] == [str(it) for it in range(len(script.heads))]
+        assert [it["ext"] for it in script.messages("/meta/handshake")] == [{"ack": True, "token": 5}, {"ack": True, "token": 6}]
+
+    def test_user_and_password_of_the_address(self, script: Script) -> None:
+        with Client(script.url.replace("//", "//Aladdin:open%20sesame@")) as client:
+            client.publish("/b", 1)
+        assert {it["Authorization"] for it in script.heads} == {"Basic QWxhZGRpbjpvcGVuIHNlc2FtZQ=="}
+
+    @pytest.mark.parametrize("url", ["", "/cometd", "ftp://127.0.0.1/", "http://"])
+    def test_a_wrong_address(self, url: str) -> None:
+        with pytest.raises(ValueError, match="url"):
+            Client(url)
+
+
+class TestPublish:
+    @pytest.mark.parametrize("status", [400, 401, 403, 404, 413, 429, 501, 502, 503, 504])
+    def test_a_status(self, script: Script, client: Client, status: int) -> None:
+        client.publish("/b", 0)
+        script.next("/b", status)
+        with pytest.raises(HTTPStatus) as caught:
+            client.publish("/b", 1)
+        assert (caught.value.status, caught.value.may_have_arrived) == (status, status in (502, 503, 504))
+        assert isinstance(caught.value, Forbidden) == (status == 403)
+        assert isinstance(caught.value, OSError)
+
+    @pytest.mark.parametrize("body", [b"<html>", b"{}", b"[]", b"[1]", b'[{"channel":"/b"}]'])
+    def test_a_response_that_is_not_the_servers(self, script: Script, client: Client, body: bytes) -> None:
+        client.publish("/b", 0)
+        script.next("/b", body)
+        with pytest.raises(InvalidResponse):
+            client.publish("/b", 1)
+
+    def test_a_cut_connection_is_not_tried_again(self, script: Script, client: Client) -> None:
+        client.publish("/b", 0)
+        script.next("/b", None)
+        with pytest.raises(Unreachable) as caught:
+            client.publish("/b", 1)
+        assert caught.value.may_have_arrived
+        assert script.data("/b") == [[0], [1]]
+
+    def test_no_server_and_no_answer(self, script: Script) -> None:
+        with pytest.raises(Unreachable) as caught:
+            Client("http://127.0.0.1:1/cometd").publish("/b", 1)
+        assert not caught.value.may_have_arrived
+        done = threading.Event()
+        with Client(script.url, timeout=0.2) as client:
+            client.publish("/b", 0)
+            script.next("/b", lambda: done.wait(PATIENCE) and {} or {})
+            with pytest.raises(Unreachable, match="no answer in time") as caught:
+                client.publish("/b", 1)
+            done.set()
+        assert caught.value.may_have_arrived
+
+    def test_a_rejected_publish_and_a_lost_session(self, script: Script, client: Client) -> None:
+        script.next("/b", rejected("/b", "400::Invalid channel"))
+        with pytest.raises(Rejected, match="400::Invalid channel") as caught:
+            client.publish("/b", 1)
+        assert (caught.value.number, script.sessions) == (400, 1)
+        script.next("/b", unknown("/b"))
+        client.publish("/b", 2)
+        assert (script.data("/b"), script.sessions) == ([[1], [2], [2]], 2)
+        for _ in range(2):
+            script.next("/b", unknown("/b"))
+        with pytest.raises(Rejected, match="402"):
+            client.publish("/b", 3)
+
+    def test_a_full_server(self, script: Script, client: Client) -> None:
+        script.next("/meta/handshake", rejected("/meta/handshake", "503::Too many sessions", reconnect="handshake"))
+        with pytest.raises(Rejected) as caught:
+            client.publish("/b", 1)
+        assert caught.value.number == 503
+
+    def test_many_in_few_requests(self, script: Script, client: Client) -> None:
+        script.next("/b", rejected("/b", "400::Missing data"))
+        outcomes = client.publish_all(("/b", it) for it in range(600))
+        assert (outcomes[0].number, outcomes[1:]) == (400, [None] * 599)  # type: ignore[union-attr]
+        assert script.data("/b") == [list(range(256)), list(range(256, 512)), list(range(512, 600))]
+        client.publish_all(("/long", "ü" * 10_000) for _ in range(10))
+        assert [len(it) for it in script.data("/long")] == [2] * 5
+
+    def test_one_by_one_if_the_request_is_refused_because_of_one(self, script: Script, client: Client) -> None:
+        script.next("/b", 403)
+        script.next("/forbidden", 403)
+        outcomes = client.publish_all([("/b", 1), ("/forbidden", 2), ("/b", 3)])
+        assert [type(it) for it in outcomes] == [type(None), Forbidden, type(None)]
+
+    def test_those_that_a_lost_session_has_not_taken_are_sent_again(self, script: Script, client: Client) -> None:
+        client.publish("/b", 0)
+        script.next("/b", unknown("/b"))
+        script.next("/b", unknown("/b"))
+        assert client.publish_all([("/b", 1), ("/b", 2)]) == [None, None]
+        assert script.data("/b") == [[0], [1, 2], [1, 2]]
+
+    def test_threads(self, script: Script, client: Client) -> None:
+        threads = [threading.Thread(target=lambda number=it: [client.publish("/b", number * 100 + count) for count in range(50)]) for it in range(8)]
+        for it in threads:
+            it.start()
+        for it in threads:
+            it.join()
+        found = [data for [data] in script.data("/b")]
+        assert sorted(found) == sorted(number * 100 + count for number in range(8) for count in range(50))
+        assert all([it for it in found if it // 100 == number] == list(range(number * 100, number * 100 + 50)) for number in range(8))
+        assert script.sessions == 1
+
+    @pytest.mark.parametrize("data", [float("nan"), {1, 2}, b"x"])
+    def test_what_json_cannot_express(self, script: Script, client: Client, data: Any) -> None:
+        with pytest.raises((ValueError, TypeError)):
+            client.publish("/b", data)
+        assert not script.requests
+
+
+class TestListen:
+    def test_each_event_once_and_acknowledged(self, script: Script, client: Client) -> None:
+        script.batches = [events(1), [], events(2, 3), events(4)]
+        listening = client.listen("/a")
+        assert next(listening).data == 1
+        # The server sends the events of a response that is lost, or breaks off, again.
+        for answer in (None, ...):
+            script.next("/meta/connect", answer)
+        assert [next(listening).data for _ in range(3)] == [2, 3, 4]
+        assert [it["ext"]["ack"] for it in script.messages("/meta/connect")] == [0, 1, 1, 1, 1, 2]
+
+    def test_events_have_a_channel_and_data(self, script: Script, client: Client) -> None:
+        script.batches = [events({"x": 1})]
+        assert next(client.listen("/*")) == Event("/a", {"x": 1}) == ("/a", {"x": 1})
+
+    @pytest.mark.parametrize("answer", [None, ..., 500, 503, 404, b"<html>", rejected("", "503::Too many sessions", reconnect="handshake")])
+    @pytest.mark.parametrize("channel", ["/meta/handshake", "/meta/subscribe", "/meta/connect"])
+    def test_it_tries_again(self, script: Script, client: Client, caplog: pytest.LogCaptureFixture, channel: str, answer: Any) -> None:
+        script.batches = [events(1)]
+        script.next(channel, answer)
+        with caplog.at_level(logging.WARNING, "gadzilk_client"):
+            assert take(1, client) == [1]
+        assert [it.name for it in caplog.records] == ["gadzilk_client"]
+        assert "trying again" in caplog.text
+
+    def test_a_lost_session_is_a_gap(self, script: Script) -> None:
+        gaps: list[datetime.datetime] = []
+        begin = datetime.datetime.now(datetime.timezone.utc)
+        with Client(script.url, min_pause=0.001, on_gap=gaps.append) as client:
+            script.batches = [events(1)]
+            listening = client.listen("/a")
+            assert next(listening).data == 1
+            assert not gaps
+            script.next("/meta/connect", unknown("/meta/connect"))
+            script.batches = [events(2)]
+            assert next(listening).data == 2
+        assert len(gaps) == 1 and begin <= gaps[0] <= datetime.datetime.now(datetime.timezone.utc)
+        assert [it["clientId"] for it in script.messages("/meta/subscribe")] == ["session 1", "session 2"]
+        assert script.messages("/meta/connect")[-1]["ext"] == {"ack": 0}
+
+    @pytest.mark.parametrize("channel", ["/meta/handshake", "/meta/connect"])
+    def test_the_advice_not_to_try_again(self, script: Script, client: Client, channel: str) -> None:
+        script.next(channel, rejected(channel, "400::Unsupported version", reconnect="none"))
+        with pytest.raises(Rejected, match="400::Unsupported version"):
+            take(1, client)
+
+    def test_a_rejected_pattern(self, script: Script, client: Client) -> None:
+        script.next("/meta/subscribe", rejected("/meta/subscribe", "400::Invalid pattern"))
+        with pytest.raises(Rejected, match="/a/[*][*]/b: 400::Invalid pattern") as caught:
+            take(1, client, "/a/**/b")
+        assert caught.value.number == 400
+
+    def test_many_patterns(self, script: Script, client: Client) -> None:
+        script.batches = [events(1)]
+        take(1, client, *(f"/{it}" for it in range(150)))
+        assert [len(it["subscription"]) for it in script.messages("/meta/subscribe")] == [64, 64, 22]
+
+    def test_patience_ends(self, script: Script) -> None:
+        for _ in range(1000):
+            script.next("/meta/handshake", rejected("/meta/handshake", "503::Too many sessions", reconnect="handshake"))
+        with Client(script.url, min_pause=0.001, max_pause=0.01, patience=0.1) as client, pytest.raises(Rejected, match="503"):
+            take(1, client)
+
+    def test_pauses(self, script: Script, client: Client, monkeypatch: pytest.MonkeyPatch) -> None:
+        client.min_pause, client.max_pause = 0.25, 10.0
+        pauses: list[float] = []
+        monkeypatch.setattr(client._closed, "wait", lambda seconds: pauses.append(seconds))
+        for _ in range(9):
+            script.next("/meta/handshake", 503)
+        script.batches = [events(1)]
+        script.advice["interval"] = 2000
+        assert take(1, client) == [1]
+        limits = [min(10.0, 0.25 * 2**it) for it in range(9)]
+        assert all(limit / 2 <= it <= limit for it, limit in zip(pauses, limits))
+        # A random length, so that not all clients return at once.
+        assert len({it / limit for it, limit in zip(pauses, limits)}) > 1
+        # After a connect that succeeds, the pauses begin anew, and the advised interval applies.
+        pauses.clear()
+        script.batches = [events(2), events(3)]
+        script.next("/meta/connect", 503)
+        script.next("/meta/connect", 503)
+        listening = client.listen("/a")
+        assert next(listening).data == 2
+        script.next("/meta/connect", 503)
+        assert next(listening).data == 3
+        first, second, interval, again = pauses
+        assert (first <= 0.25, second <= 0.5, interval, again <= 0.25) == (True, True, 2.0, True)
+        # A session that is lost shows that the server can be reached.
+        pauses.clear()
+        script.batches = [events(4)]
+        for answer in (503, 503, 503, unknown("/meta/connect")):
+            script.next("/meta/connect", answer)
+        assert next(listening).data == 4
+        assert (pauses[0], pauses[4] <= 0.25) == (2.0, True)
+
+    def test_the_hold_adds_to_the_timeout(self, script: Script, client: Client, monkeypatch: pytest.MonkeyPatch) -> None:
+        script.advice["timeout"] = 30_000
+        script.batches = [events(1)]
+        found: list[float] = []
+        post = client._connects.post
+        monkeypatch.setattr(client._connects, "post", lambda body, headers, timeout: found.append(timeout) or post(body, headers, timeout))
+        take(1, client)
+        assert found == [PATIENCE, PATIENCE + 30]
+
+    def test_close_from_another_thread_ends_it(self, script: Script, client: Client) -> None:
+        hold = threading.Event()
+        script.next("/meta/connect", lambda: hold.wait(PATIENCE) and {} or {})
+        found: list[Any] = []
+        thread = threading.Thread(target=lambda: found.append(list(client.listen("/a"))))
+        thread.start()
+        while not script.messages("/meta/connect"):
+            pass
+        client.close()
+        thread.join(PATIENCE)
+        hold.set()
+        assert found == [[]]
+
+    def test_a_publish_that_finds_the_session_gone_ends_the_connect(self, script: Script) -> None:
+        hold, gaps = threading.Event(), threading.Event()
+        found: list[Any] = []
+        with Client(script.url, timeout=PATIENCE, min_pause=0.001, on_gap=lambda _: gaps.set()) as client:
+            script.next("/meta/connect", lambda: hold.wait(PATIENCE) and {} or {})
+            thread = threading.Thread(target=lambda: found.append(next(client.listen("/a")).data))
+            thread.start()
+            while not script.messages("/meta/connect"):
+                pass
+            script.next("/b", unknown("/b"))
+            script.batches = [events(1)]
+            client.publish("/b", 0)
+            thread.join(PATIENCE / 2)
+            in_time = [*found]
+            hold.set()
+        assert (in_time, gaps.is_set()) == ([1], True)
+
+    def test_only_one_at_a_time(self, script: Script, client: Client) -> None:
+        script.batches = [events(1)]
+        listening = client.listen("/a")
+        next(listening)
+        with pytest.raises(RuntimeError):
+            next(client.listen("/a"))
+        with pytest.raises(ValueError):
+            next(client.listen())
+
+
+class TestClose:
+    @pytest.mark.parametrize("answer", [None, 500, b"", unknown("/meta/disconnect")])
+    def test_it_raises_nothing(self, script: Script, answer: Any) -> None:
+        client = Client(script.url)
+        client.publish("/b", 1)
+        script.next("/meta/disconnect", answer)
+        client.close()
+        assert client.client_id is None
+
+
+def test_asyncio(script: Script) -> None:
+    async def run() -> list[Any]:
+        async with AsyncClient(script.url) as client:
+            await client.publish("/b", 1)
+            assert await client.publish_all([("/b", 2)]) == [None]
+            script.batches = [events(1, 2)]
+            found = []
+            async for event in client.listen("/a"):
+                found.append(event.data)
+                if len(found) == 2:
+                    return found
+        raise AssertionError
+
+    assert asyncio.run(run()) == [1, 2]
+
+
+def test_importing_reads_and_prints_nothing(monkeypatch: pytest.MonkeyPatch, script: Script) -> None:
+    monkeypatch.setenv("BAYEUX_URL", script.url)
+    with Client() as client:
+        client.publish("/b", 1)
+    assert script.data("/b") == [[1]]
+    assert http.client.HTTPConnection.debuglevel == 0
