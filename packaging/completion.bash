@@ -21,8 +21,10 @@ _bayeux_arguments() {
     case $1 in
         serve) _bayeux_flags bayeuxd ;;
         replay) _bayeux_flags bayeux_replay && _bayeux_flags bayeux_record ;;
-        # shellcheck disable=SC2016
-        test) "$_bayeux_folder/../bayeux" test --help | grep -o '`[a-z]*`' | tr -d '`' && ls "$_bayeux_folder/../crates" ;;
+        test)
+            # shellcheck disable=SC2016
+            "$_bayeux_folder/../bayeux" test --help | grep -o '`[a-z]*`' | tr -d '`' && ls "$_bayeux_folder/../crates"
+            ;;
         prove) echo bayeuxd bayeux_replay bayeux_load ;;
         help) echo serve replay load test prove ;;
     esac
