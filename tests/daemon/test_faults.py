@@ -134,7 +134,7 @@ def test_clients_lose_no_event_if_memory_runs_out(daemon, program, tmp_path):
     check_record(server, record)
 
 
-NO_THREAD = [r'\[ERROR bayeuxd\] cannot serve error=".+"', "bayeuxd: cannot listen"]
+NO_THREAD = [r'\[ERROR bayeuxd\] cannot serve error=".+"', "bayeuxd: cannot serve"]
 OUT_OF_MEMORY = "bayeuxd: out of memory"
 NO_SEED = [
     r'\[ERROR bayeuxd\] cannot read the seed at="the operating system" error=".+"',

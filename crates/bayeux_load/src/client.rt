@@ -56,7 +56,7 @@ impl Client {
     pub fn begin(&mut self) -> Result<(), Fault> {
         let acknowledges = self.context.settings.is_acknowledging
             && matches!(&self.role, Role::Subscriber(_));
-        let request = self.requests().handshake(acknowledges)?;
+        let request = self.requests().format_handshake(acknowledges)?;
         self.ask(Awaited::Handshake, request, 0)
     }
 
@@ -167,7 +167,7 @@ impl Client {
     fn subscribe(&mut self, tally: &mut Tally, now: u64) -> Result<(), Fault> {
         match &self.role {
             Role::Subscriber(session) => {
-                let request = self.requests().subscribe(session.channel)?;
+                let request = self.requests().format_subscribe(session.channel)?;
                 self.ask(Awaited::Subscription, request, now)
             }
             Role::Publisher(_) => {
@@ -189,7 +189,7 @@ impl Client {
             Role::Subscriber(session) => session.acknowledged,
             Role::Publisher(_) => None,
         };
-        let request = self.requests().connect(acknowledged)?;
+        let request = self.requests().format_connect(acknowledged)?;
         self.ask(Awaited::Connect, request, now)
     }
 
@@ -201,7 +201,7 @@ impl Client {
     /// # Errors
     ///
     /// `Memory`, or as [`Link::send`].
-    pub fn publish(&mut self, begun: Option<u64>, now: u64) -> Result<(), Fault> {
+    pub fn send_due(&mut self, begun: Option<u64>, now: u64) -> Result<(), Fault> {
         let (Awaited::Nothing, Role::Publisher(publisher)) = (self.state, &mut self.role) else {
             return Ok(());
         };
@@ -209,11 +209,11 @@ impl Client {
         if let Some(begun) = begun
             && let Some(stamp) = publisher.next(settings, now.saturating_sub(begun), now)
         {
-            let request = self.requests().publish(channel, stamp)?;
+            let request = self.requests().format_publish(channel, stamp)?;
             return self.ask(Awaited::Publish, request, now);
         }
         if now.saturating_sub(self.asked) > QUIET {
-            let request = self.requests().touch()?;
+            let request = self.requests().format_touch()?;
             return self.ask(Awaited::Touch, request, now);
         }
         Ok(())

@@ -91,7 +91,7 @@ impl LoadPart {
     }
 
     /// Returns how long the thread may wait for its connections.
-    pub fn pause(&self) -> Duration {
+    pub fn poll_timeout(&self) -> Duration {
         let (unready, unpublished, _) = self.progress;
         let is_paced = unready == 0 && unpublished > 0 && self.context.settings.rate > 0;
         Duration::from_millis(if is_paced { 1 } else { 10 })
@@ -114,14 +114,14 @@ impl LoadPart {
         Ok(())
     }
 
-    /// Records when the publishers started, and calls [`Client::publish`] for each publisher.
+    /// Records when the publishers started, and calls [`Client::send_due`] for each publisher.
     ///
     /// `now`: nanoseconds since the load started.
     ///
     /// # Errors
     ///
-    /// As [`Client::publish`].
-    pub fn publish(&mut self, now: u64) -> Result<(), Fault> {
+    /// As [`Client::send_due`].
+    pub fn send_due(&mut self, now: u64) -> Result<(), Fault> {
         let begun = self.context.begun(now);
         if let Some(begun) = begun {
             self.tally.begun = begun;
@@ -129,7 +129,7 @@ impl LoadPart {
         let sessions = self.sessions.min(self.clients.len());
         let (_, publishers) = self.clients.as_mut_slice().split_at_mut(sessions);
         for publisher in publishers.iter_mut() {
-            publisher.publish(begun, now)?;
+            publisher.send_due(begun, now)?;
         }
         Ok(())
     }

@@ -75,7 +75,7 @@ impl Waiting {
     {
         self.serve(rt, part)?;
         let now = part.context.now(rt)?;
-        part.publish(now)?;
+        part.send_due(now)?;
         let is_over = part.is_over(now)?;
         if let Some(shown) = self.shown
             && (is_over || now.saturating_sub(shown) > SHOWN)
@@ -89,7 +89,7 @@ impl Waiting {
     // Opens more clients, waits for connections, and serves the clients with a ready connection.
     fn serve<R: Net + Clock>(&mut self, rt: &R, part: &mut LoadPart) -> Result<(), Fault> {
         part.open(rt, self.poll.registry())?;
-        self.poll.poll(&mut self.events, Some(part.pause()))?;
+        self.poll.poll(&mut self.events, Some(part.poll_timeout()))?;
         for event in self.events.iter() {
             part.serve(rt, event.token().0, self.buffer.as_mut_slice())?;
         }

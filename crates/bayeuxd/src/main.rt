@@ -37,8 +37,11 @@ use std::{env, io, thread};
 const USAGE: &str =
     "usage: bayeuxd address shards timeout interval max_interval seed connections [options [limit]]";
 
-/// Printed if the server cannot listen or serve. The log has the reason.
+/// Printed if the server cannot listen. The log has the reason.
 const CANNOT_LISTEN: &str = "bayeuxd: cannot listen";
+
+/// Printed if the server cannot serve. The log has the reason.
+const CANNOT_SERVE: &str = "bayeuxd: cannot serve";
 
 const NO_METRICS: &str = "cannot listen for metrics";
 
@@ -220,7 +223,7 @@ fn not_served(rt: &Host, fault: ServeFault<'_>) -> ExitCode {
         ServeFault::CannotListen(name, error) => cannot_listen(rt, name, &error),
         ServeFault::CannotServe(error) => {
             log_cannot_serve(rt, &error);
-            failed_by(rt, &error, CANNOT_LISTEN)
+            failed_by(rt, &error, CANNOT_SERVE)
         }
     }
 }

@@ -13,7 +13,7 @@ pub struct Requests<'a> {
 
 impl Requests<'_> {
     /// Formats a handshake, which may ask for acknowledgement.
-    pub fn handshake(&self, acknowledges: bool) -> Result<String, AllocError> {
+    pub fn format_handshake(&self, acknowledges: bool) -> Result<String, AllocError> {
         let ext = if acknowledges {
             r#","ext":{"ack":true}"#
         } else {
@@ -26,7 +26,7 @@ impl Requests<'_> {
     }
 
     /// Formats a subscription to channel `/load/{channel}`.
-    pub fn subscribe(&self, channel: u32) -> Result<String, AllocError> {
+    pub fn format_subscribe(&self, channel: u32) -> Result<String, AllocError> {
         let client = self.client;
         let body = format!(in self.alloc;
             r#"[{{"channel":"/meta/subscribe","clientId":"{client}","subscription":"/load/{channel}"}}]"#
@@ -35,7 +35,7 @@ impl Requests<'_> {
     }
 
     /// Formats a connect that acknowledges batch `acknowledged`, if any.
-    pub fn connect(&self, acknowledged: Option<u64>) -> Result<String, AllocError> {
+    pub fn format_connect(&self, acknowledged: Option<u64>) -> Result<String, AllocError> {
         let client = self.client;
         let mut body = format!(in self.alloc;
             r#"[{{"channel":"/meta/connect","clientId":"{client}","connectionType":"long-polling""#
@@ -48,7 +48,7 @@ impl Requests<'_> {
     }
 
     /// Formats a connect that the server answers at once.
-    pub fn touch(&self) -> Result<String, AllocError> {
+    pub fn format_touch(&self) -> Result<String, AllocError> {
         let client = self.client;
         let body = format!(in self.alloc;
             r#"[{{"channel":"/meta/connect","clientId":"{client}","connectionType":"long-polling","advice":{{"timeout":0}}}}]"#
@@ -57,7 +57,7 @@ impl Requests<'_> {
     }
 
     /// Formats a publish to channel `/load/{channel}`, with the data `stamp`.
-    pub fn publish(&self, channel: u32, stamp: Stamp) -> Result<String, AllocError> {
+    pub fn format_publish(&self, channel: u32, stamp: Stamp) -> Result<String, AllocError> {
         let client = self.client;
         let (publisher, number, moment) = (stamp.publisher, stamp.number, stamp.moment);
         let body = format!(in self.alloc;

@@ -80,7 +80,7 @@ fn an_event_says_what_was_published(rt: HostRuntime) -> Result<(), Fail> {
         target: &settings.target,
         client: "c",
     };
-    let request = requests.publish(5, stamp)?;
+    let request = requests.format_publish(5, stamp)?;
     let (head, body) = request.as_str().split_once("\r\n\r\n").ok_or("no body")?;
     assert!(rt; head.starts_with("POST /x HTTP/1.1\r\nhost: h:1\r\n"));
     let messages = Value::from_str(rt.alloc(), body)?;
