@@ -6,7 +6,7 @@ _bayeux_folder=$(cd "$(dirname "${BASH_SOURCE[0]}")" && pwd)
 # Prints the flags in the manual page of program $1: those in the synopsis and in titles of paragraphs.
 _bayeux_flags() {
     local page
-    for page in "$_bayeux_folder/$1".[18] /usr/share/man/man[18]/"$1".[18].gz; do
+    for page in "$_bayeux_folder/$1".[18] "$_bayeux_folder"/../../man/man[18]/"$1".[18].gz; do
         [[ -r $page ]] || continue
         zcat -f "$page" | sed 's/\\-/-/g' | awk '
             /^\.SH/ { is_synopsis = /SYNOPSIS/ }

@@ -1,9 +1,11 @@
-"""The release in dist/: a Debian package of the proved programs, what each program was built from, and checksums.
+"""The release in dist/: packages of the proved programs, what each program was built from, and checksums.
 
-scripts/release makes it. To read it, Python's standard library is enough: dpkg is not used.
+usage: python3 scripts/dist.py FOLDER        (writes SOURCES and SHA256SUMS to the folder of a new release)
+
+scripts/release makes it. To read it, Python's standard library is enough.
 """
-import io
 import os
+import sys
 import tarfile
 import tempfile
 
@@ -18,40 +20,20 @@ PROGRAMS = ("bayeuxd", "bayeux_replay", "bayeux_load")
 EXTRACTED = f"{repository.TOP}/out/release"
 # The command that strips a program for the package, without its path.
 STRIP = ("strip", "--strip-unneeded", "--remove-section=.comment", "--remove-section=.note")
-AR_MAGIC, AR_HEAD = b"!<arch>\n", 60
 
 
 class Unusable(Exception):
     """There is no release, or it cannot be read, or a file differs from its checksum. The text is the reason."""
 
 
-def write_sources(folder, kit):
-    """Writes SOURCES to `folder`, for programs that the toolchain in the folder `kit` built from the current text."""
-    checksums, kit_id = repository.Checksums(), repository.kit_id(kit)
+def describe(folder):
+    """Writes SOURCES and SHA256SUMS to `folder`. Its programs are those that the toolchain on the path built from the current text."""
+    checksums, kit_id = repository.Checksums(), repository.kit_id(repository.toolchain())
     with open(f"{folder}/{SOURCES}", "w", encoding="ascii") as file:
         file.writelines(f"{it} {checksums.checksum(it)} {kit_id}\n" for it in PROGRAMS)
-
-
-def write_checksums(folder):
-    """Writes SHA256SUMS to `folder`, with the checksum of each other file."""
     names = sorted(it for it in os.listdir(folder) if it != CHECKSUMS)
     with open(f"{folder}/{CHECKSUMS}", "w", encoding="ascii") as file:
         file.writelines(f"{repository.digest_of(f'{folder}/{it}')}  {it}\n" for it in names)
-
-
-def data_of(package):
-    """Returns the tar archive of the files that a Debian package installs. `package`: its content, an `ar` archive.
-
-    Raises `ValueError` if it has no such archive.
-    """
-    at = len(AR_MAGIC)
-    while package.startswith(AR_MAGIC) and at + AR_HEAD <= len(package):
-        name, size = package[at : at + 16], int(package[at + 48 : at + 58])
-        at += AR_HEAD
-        if name.startswith(b"data.tar"):
-            return package[at : at + size]
-        at += size + size % 2
-    raise ValueError("no Debian package")
 
 
 class Release:
@@ -64,10 +46,10 @@ class Release:
             if not os.path.isfile(f"{FOLDER}/{name}") or repository.digest_of(f"{FOLDER}/{name}") != digest:
                 raise Unusable(f"dist/{name} differs from its checksum in dist/{CHECKSUMS}")
         self.sources = {name: (checksum, kit_id) for name, checksum, kit_id in self.lines(SOURCES, 3)}
-        packages = [it for it in self.checksums if it.endswith(".deb")]
-        if len(packages) != 1 or tuple(self.sources) != PROGRAMS or SOURCES not in self.checksums:
-            raise Unusable(f"dist/ has {len(packages)} packages, and sources of {len(self.sources)} programs")
-        self.package = packages[0]
+        if tuple(self.sources) != PROGRAMS or SOURCES not in self.checksums:
+            raise Unusable(f"dist/{SOURCES} has {len(self.sources)} programs, or no checksum in dist/{CHECKSUMS}")
+        # The archive that has the programs.
+        self.archive = next((it for it in self.checksums if it.endswith(".tar.gz")), "no archive")
 
     @staticmethod
     def lines(name, count):
@@ -87,21 +69,19 @@ class Release:
         return checksum == repository.Checksums().checksum(name) and repository.LOGIC in kit_id
 
     def program(self, name):
-        """Returns program `name`, as bytes. Raises `Unusable` if it cannot be read from the package."""
-        with open(f"{FOLDER}/{self.package}", "rb") as file:
-            package = file.read()
+        """Returns program `name`, as bytes. Raises `Unusable` if it cannot be read from the archive."""
         try:
-            with tarfile.open(fileobj=io.BytesIO(data_of(package)), mode="r:*") as archive:
-                return archive.extractfile(f"./usr/bin/{name}").read()
-        except (tarfile.TarError, KeyError, ValueError) as error:
-            raise Unusable(f"{name} cannot be read from dist/{self.package}: {error}") from error
+            with tarfile.open(f"{FOLDER}/{self.archive}") as archive:
+                return archive.extractfile(f"{self.archive.removesuffix('.tar.gz')}/bin/{name}").read()
+        except (OSError, tarfile.TarError, KeyError) as error:
+            raise Unusable(f"{name} cannot be read from dist/{self.archive}: {error}") from error
 
     def extract(self, name):
         """Extracts program `name` to EXTRACTED, unless it is there, and returns its path.
 
-        Raises `Unusable` if it cannot be read from the package.
+        Raises `Unusable` if it cannot be read from the archive.
         """
-        path, checksum = f"{EXTRACTED}/{name}", self.checksums[self.package]
+        path, checksum = f"{EXTRACTED}/{name}", self.checksums.get(self.archive)
         if not repository.is_up_to_date(path, checksum):
             program = self.program(name)
             os.makedirs(EXTRACTED, exist_ok=True)
@@ -114,3 +94,7 @@ class Release:
                 os.replace(file.name, path)
                 os.replace(f"{file.name}.made", f"{path}.made")
         return path
+
+
+if __name__ == "__main__":
+    describe(sys.argv[1])

@@ -111,7 +111,7 @@ def known_words() -> set[str]:
     found = set(FOREIGN)
     for path in tracked():
         found.update(WORD.findall(path))
-        if not path.endswith((".md", ".png", ".csv", ".ico", ".deb")):
+        if not path.startswith("dist/") and not path.endswith((".md", ".png", ".csv", ".ico")):
             found.update(re.findall(r"\w+", read(path)))
     return found
 

@@ -1,15 +1,27 @@
-"""The release in dist/: its checksums, and whether its programs are those that this machine proved and built from the same sources."""
+"""The release in dist/: its packages, as they are installed, and whether its programs are those that this machine proved and built."""
 import os
+import re
 import shutil
 import subprocess
+import tarfile
 from pathlib import Path
+from typing import Any
 
 import dist
 import pytest
 import repository
+from base import TOP, read
+from daemon import check_serves, get
+from metrics import ask_for
 from tree import Tree
 
 NO_TOOLCHAIN = "the toolchain's command rt is not on the path, so that no programs of this machine can be compared"
+VERSION = read("VERSION").strip()
+ARCHIVE = f"gadzilk-{VERSION}-x86_64-linux"
+NPM, WHEEL = f"gadzilk-client-{VERSION}.tgz", f"gadzilk_client-{VERSION}-py3-none-any.whl"
+FILES = {f"gadzilk_{VERSION}_amd64.deb", f"{ARCHIVE}.tar.gz", NPM, WHEEL, dist.SOURCES, dist.CHECKSUMS}
+# The greatest size of all files together, since each clone has them.
+MOST_BYTES = 3_000_000
 
 
 class CannotCompare(Exception):
@@ -17,11 +29,13 @@ class CannotCompare(Exception):
 
 
 def other_sources(release: dist.Release) -> str:
-    """Returns what the release was built from other than the current sources and this toolchain, or ""."""
-    kit_id, checksums = repository.kit_id(repository.toolchain()), repository.Checksums()
-    names = [it for it in dist.PROGRAMS if release.sources[it][0] != checksums.checksum(it)]
-    kits = sorted({it for _, it in release.sources.values()} - {kit_id})
-    return " and ".join([*([f"other sources of {', '.join(names)}"] if names else []), *(f"toolchain {it}" for it in kits)])
+    """Returns the programs that the release built from other sources than the current ones, or ""."""
+    return ", ".join(it for it in dist.PROGRAMS if not release.is_current(it))
+
+
+def other_toolchains(release: dist.Release) -> str:
+    """Returns the toolchains that built the release, other than the one on the path, or ""."""
+    return ", ".join(sorted({it for _, it in release.sources.values()} - {repository.kit_id(repository.toolchain())}))
 
 
 def built_here(name: str, is_proved: bool, folder: Path) -> bytes:
@@ -49,27 +63,103 @@ def expect_same_programs(release: dist.Release, is_proved: bool, folder: Path) -
             pytest.fail(f"{name} differs, first at byte {at} ({len(there)} bytes, and {len(here)} here)")
 
 
-def expect_no_other_files(release: dist.Release) -> None:
-    assert {*os.listdir(dist.FOLDER)} == {*release.checksums, dist.CHECKSUMS}
+def run(*args: Any, **how: Any) -> str:
+    """Runs a command, which must end with status 0, and returns its output."""
+    result = subprocess.run(args, capture_output=True, text=True, check=False, **how)
+    assert result.returncode == 0, result.stderr
+    return result.stdout
 
 
-@pytest.mark.skipif(not os.path.exists(dist.FOLDER), reason="there is no release in dist/")
-def test_files_of_the_release_have_their_checksums() -> None:
-    expect_no_other_files(dist.Release())
+@pytest.fixture
+def release() -> dist.Release:
+    """The release. Skips the test if it was built from other sources."""
+    if not os.path.exists(dist.FOLDER):
+        pytest.skip("there is no release in dist/")
+    found = dist.Release()
+    if other_sources(found):
+        pytest.skip(f"dist/ was built from other sources of {other_sources(found)}")
+    return found
 
 
-@pytest.mark.skipif(not os.path.exists(dist.FOLDER), reason="there is no release in dist/")
-def test_programs_of_the_release_are_those_built_here(pytestconfig: pytest.Config, skip, tmp_path: Path) -> None:
+def test_files_of_the_release_have_their_checksums(release: dist.Release) -> None:
+    assert {*os.listdir(dist.FOLDER)} == {*release.checksums, dist.CHECKSUMS} == FILES
+    assert run("sha256sum", "--check", "--quiet", dist.CHECKSUMS, cwd=dist.FOLDER) == ""
+    assert sum(it.stat().st_size for it in Path(dist.FOLDER).iterdir()) <= MOST_BYTES
+
+
+def test_programs_of_the_release_are_those_built_here(release: dist.Release, pytestconfig: pytest.Config, skip, tmp_path: Path) -> None:
     if not shutil.which("rt"):
         skip("release", NO_TOOLCHAIN)
-    release = dist.Release()
-    built_from = other_sources(release)
-    if built_from:
-        pytest.skip(f"{release.package} was built from {built_from}")
+    if other_toolchains(release):
+        pytest.skip(f"{release.archive} was built by {other_toolchains(release)}")
     try:
         expect_same_programs(release, pytestconfig.getoption("--program") == "proved", tmp_path)
     except CannotCompare as error:
-        skip("release", f"{release.package} is not compared: {error}")
+        skip("release", f"{release.archive} is not compared: {error}")
+
+
+def test_pages_name_the_files_and_the_glibc_of_the_release(release: dist.Release) -> None:
+    if not shutil.which("objdump"):
+        pytest.skip("there is no objdump (package binutils)")
+    symbols = "".join(run("objdump", "-T", release.extract(it)) for it in dist.PROGRAMS)
+    newest = max((tuple(map(int, it.split("."))) for it in re.findall(r"\(GLIBC_([\d.]+)\)", symbols)))
+    for page in ("README.md", "docs/README.md", "packaging/install.sh"):
+        assert re.findall(r"glibc\s+([\d.]+)\s+or\s+later", read(page)) == [".".join(map(str, newest))], page
+
+
+def test_archive_is_installed_serves_and_is_removed(release: dist.Release, daemon, tmp_path: Path) -> None:
+    run("tar", "-xzf", f"{dist.FOLDER}/{release.archive}", "-C", tmp_path)
+    prefix, own = tmp_path / "prefix", tmp_path / "prefix/bin/own"
+    own.parent.mkdir(parents=True)
+    own.touch()
+    # The second installation replaces the first.
+    for _ in range(2):
+        assert f"Installed bayeuxd {VERSION} in {prefix}." in run(tmp_path / ARCHIVE / "install.sh", prefix, umask=0o077)
+    shutil.rmtree(tmp_path / ARCHIVE)
+    assert f"\nExecStart={prefix}/bin/bayeuxd-run " in (prefix / "lib/systemd/system/bayeuxd.service").read_text(encoding="utf-8")
+    paths = {"env": {"PATH": f"{prefix}/bin:/usr/bin:/bin"}}
+    assert run("sh", "-c", "bayeux_replay 2 2 30000 0 10000; bayeux_record --help", input="0 P []\n", **paths).startswith("1 200 []\nusage: ")
+    server = daemon("--listen", "127.0.0.1:0", "--metrics", "127.0.0.1:0", program=prefix / "bin/bayeuxd-run", is_plain=True, **paths)
+    check_serves(server.address, "/installed")
+    assert b"<title>" in ask_for(server.metrics, get(b"", b"/")).body
+    run(prefix / "share/gadzilk/install.sh", "--uninstall", prefix)
+    assert [*prefix.rglob("*")] == [own.parent, own]
+
+
+@pytest.fixture
+def packed(tmp_path: Path) -> Path:
+    """A folder with the packages of the clients."""
+    run(f"{TOP}/scripts/package", tmp_path / "packed")
+    return tmp_path / "packed"
+
+
+def test_clients_are_packed_into_the_same_bytes(packed: Path, tmp_path: Path) -> None:
+    run(f"{TOP}/scripts/package", "again", cwd=tmp_path, umask=0o077, env={"PATH": os.environ["PATH"], "LANG": "C", "TZ": "Asia/Tokyo"})
+    assert {it.name: it.read_bytes() for it in packed.iterdir()} == {it: (tmp_path / "again" / it).read_bytes() for it in (NPM, WHEEL)}
+
+
+def test_release_has_the_current_clients(release: dist.Release, packed: Path) -> None:
+    assert [it for it in (NPM, WHEEL) if (packed / it).read_bytes() != Path(dist.FOLDER, it).read_bytes()] == [], "run scripts/release again"
+
+
+def content(archive: Path) -> dict[str, bytes]:
+    """Returns the content of each file of a tar archive, by its path."""
+    with tarfile.open(archive) as it:
+        return {member.name: it.extractfile(member).read() for member in it if member.isfile()}  # type: ignore[union-attr]
+
+
+def test_npm_packs_the_same_files(packed: Path, tmp_path: Path) -> None:
+    if not shutil.which("npm"):
+        pytest.skip("there is no npm")
+    run("npm", "pack", f"{TOP}/examples/client", "--offline", "--cache", tmp_path / "cache", cwd=tmp_path)
+    assert content(tmp_path / NPM) == content(packed / NPM)
+
+
+def test_pages_name_this_version() -> None:
+    assert re.findall(r"^## (.*) \(\d{4}-\d\d-\d\d\)$", read("CHANGELOG.md"), re.MULTILINE)[0] == VERSION
+    pages = [it for it in [*TOP.glob("*.md"), *TOP.glob("docs/*.md"), *TOP.glob("examples/**/*.md")] if it.name != "CHANGELOG.md"]
+    named = [it for page in pages for it in re.findall(r"\bgadzilk[-_](?:client-)?\d[\w.-]+\b", page.read_text(encoding="utf-8"))]
+    assert {f"gadzilk_{VERSION}_amd64.deb", f"{ARCHIVE}.tar.gz"} <= {*named} <= {*FILES, ARCHIVE}
 
 
 @pytest.fixture
@@ -98,26 +188,9 @@ def test_wrong_byte_is_found(is_proved: bool, tree: Tree, stripped: bytes, tmp_p
     with pytest.raises(CannotCompare, match="bayeuxd was not proved"):
         expect_same_programs(dist.Release(), is_proved, tmp_path)
     tree.prove(Path(str(shutil.which("true"))).read_bytes())
-    assert other_sources(dist.Release()) == ""
     expect_same_programs(dist.Release(), is_proved, tmp_path)
     wrong = bytearray(stripped)
     wrong[len(wrong) // 2] ^= 1
     tree.release(bytes(wrong))
     with pytest.raises(pytest.fail.Exception, match=f"first at byte {len(wrong) // 2}"):
         expect_same_programs(dist.Release(), is_proved, tmp_path)
-
-
-def test_what_differs_from_the_release_is_found(tree: Tree) -> None:
-    """Another file, other sources, another toolchain, and a damaged package."""
-    tree.release()
-    expect_no_other_files(dist.Release())
-    tree.write("dist/other", "")
-    with pytest.raises(AssertionError):
-        expect_no_other_files(dist.Release())
-    tree.write("crates/bayeux_load/src/main.rt", "fn changed() {}\n")
-    assert other_sources(dist.Release()) == "other sources of bayeux_load"
-    tree.write("../kit/KIT-ID", f"another {(tree.top / '../kit/KIT-ID').read_text(encoding='ascii')}")
-    assert "toolchain kit" in other_sources(dist.Release())
-    tree.damage()
-    with pytest.raises(dist.Unusable, match="differs from its checksum"):
-        dist.Release()

@@ -10,7 +10,7 @@ from base import TOP
 
 FILES = ("bayeux", "scripts/dist.py", "scripts/program", "scripts/repository.py")
 PROGRAMS = ("bayeuxd", "bayeux_replay", "bayeux_load")
-PACKAGE = "dist/gadzilk_1_amd64.deb"
+ARCHIVE = "gadzilk-1-x86_64-linux"
 # A program that prints its kind and its arguments.
 PROGRAM = '#!/bin/sh\necho {} "$@"\n'
 # Stubs: scripts/checked prints the path of a program, scripts/build fails, and scripts/replay_record prints the program and its arguments.
@@ -23,7 +23,7 @@ STUBS = {
 # Calls functions of the copy's scripts, with the arguments.
 CALL = 'import sys; sys.dont_write_bytecode = True; sys.path.insert(0, "scripts"); import dist, repository; {}'
 RECORD = CALL.format("repository.record_build(sys.argv[1], repository.Checksums(repository.toolchain()).checksum(sys.argv[2]))")
-DESCRIBE = CALL.format('dist.write_sources("dist", repository.toolchain()); dist.write_checksums("dist")')
+DESCRIBE = CALL.format('dist.describe("dist")')
 
 
 class Tree:
@@ -77,21 +77,17 @@ class Tree:
             self.write(f"crates/{it}/out/{it}", data or PROGRAM.format("proved"), 0o755)
             self.python(RECORD, f"crates/{it}/out/{it}", it, path=self.path)
 
-    def release(self, data=None, kind="xz"):
-        """Makes a release of the current sources. `data`: the content of each program. `kind`: how its package is compressed."""
+    def release(self, data=None):
+        """Makes a release of the current sources. `data`: the content of each program."""
         content, data = io.BytesIO(), data or PROGRAM.format("released").encode()
-        with tarfile.open(fileobj=content, mode=f"w:{kind}") as archive:
+        with tarfile.open(fileobj=content, mode="w:gz") as archive:
             for it in PROGRAMS:
-                head = tarfile.TarInfo(f"./usr/bin/{it}")
+                head = tarfile.TarInfo(f"{ARCHIVE}/bin/{it}")
                 head.size = len(data)
                 archive.addfile(head, io.BytesIO(data))
-        members = {"debian-binary": b"2.0\n", "control.tar.xz": b"odd", f"data.tar.{kind}": content.getvalue()}
-        package = b"!<arch>\n"
-        for name, it in members.items():
-            package += f"{name:16}{0:<12}{0:<6}{0:<6}{100644:<8}{len(it):<10}`\n".encode() + it + b"\n" * (len(it) % 2)
-        self.write(PACKAGE, package)
+        self.write(f"dist/{ARCHIVE}.tar.gz", content.getvalue())
         self.python(DESCRIBE, path=self.path)
 
     def damage(self):
-        """Adds a byte to the package of the release."""
-        self.write(PACKAGE, (self.top / PACKAGE).read_bytes() + b"\n")
+        """Adds a byte to the archive of the release."""
+        self.write(f"dist/{ARCHIVE}.tar.gz", (self.top / f"dist/{ARCHIVE}.tar.gz").read_bytes() + b"\n")

@@ -9,11 +9,11 @@ from machine import CannotRun, Machine
 
 
 def build(folder):
-    """Builds a package from the programs in `folder / "programs"`, and returns its path."""
+    """Builds the packages of the programs in `folder / "programs"` in `folder`, and returns the path of the Debian package."""
     args = [f"{TOP}/scripts/package", "--programs", folder / "programs", folder]
     result = subprocess.run(args, capture_output=True, text=True, check=False)
     assert result.returncode == 0, result.stderr
-    return result.stdout.strip()
+    return next(it for it in result.stdout.split() if it.endswith(".deb"))
 
 
 @pytest.fixture(scope="session")
