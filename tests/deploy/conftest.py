@@ -11,9 +11,9 @@ def need():
     """Skips a test unless the programs are installed: `need("nginx", "openssl")`."""
 
     def check(*programs):
-        missing = [it for it in programs if not shutil.which(it)]
-        if missing:
-            pytest.skip(f"there is no {missing[0]}")
+        for it in programs:
+            if not shutil.which(it):
+                pytest.skip(f"there is no {it}")
 
     return check
 
@@ -46,4 +46,4 @@ def recipe(need, tmp_path_factory):
 @pytest.fixture
 def site(nginx):
     """Starts nginx with nginx.conf: `site(server, changes)` returns an `Nginx`."""
-    return lambda server, changes=None: nginx_server.Nginx(nginx(server.address[1], changes), [], "")
+    return lambda server, changes=None: nginx_server.Nginx(nginx(server.address[1], changes))

@@ -1,8 +1,7 @@
-"""The documented requests of CometD's JavaScript client get the answers that it needs, directly and behind nginx."""
+"""The documented requests of CometD's JavaScript client get the answers that it needs behind nginx."""
 import json
 import threading
 
-import pytest
 from base import wait_until
 from bayeuxd import Bayeuxd
 from nginx import Nginx
@@ -67,17 +66,9 @@ class CometD:
         return results[0], results[1][message["id"]]
 
 
-@pytest.fixture(params=["directly", "nginx"])
-def daemon_and_client(request, server) -> tuple[Bayeuxd, CometD]:
-    """A daemon, and CometD's client in front of it."""
-    found = server()
-    if request.param == "nginx":
-        return found, CometD(request.getfixturevalue("site")(found))
-    return found, CometD(Nginx("http://%s:%d" % found.address, [], ""))
-
-
-def test_session_of_cometds_client(daemon_and_client: tuple[Bayeuxd, CometD]) -> None:
-    server, client = daemon_and_client
+def test_session_of_cometds_client(server, site) -> None:
+    server = server()
+    client = CometD(site(server))
     _, reply = client.ask("/handshake", "/meta/handshake", ext={"ack": True}, **HANDSHAKE)
     assert reply["supportedConnectionTypes"] == TYPES[1:]
     assert (reply["version"], reply["ext"], reply["advice"]["reconnect"]) == ("1.0", {"ack": True}, "retry")
@@ -97,7 +88,3 @@ def test_session_of_cometds_client(daemon_and_client: tuple[Bayeuxd, CometD]) ->
     assert events == [("/a/y", "held")]
     _, reply = client.connect_during(reply["ext"]["ack"], server, lambda: client.ask("/disconnect", "/meta/disconnect"))
     assert reply["advice"]["reconnect"] == "none"
-
-
-def test_response_is_saved_as_text_whatever_its_path_says(server, site) -> None:
-    assert site(server()).ask("/cometd/setup.bat").getheader("Content-Disposition") == 'attachment; filename="f.txt"'

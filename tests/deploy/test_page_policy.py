@@ -21,41 +21,34 @@ def block(page: str, title: str, language: str) -> str:
 @pytest.fixture
 def address(server, site, tmp_path: Path) -> str:
     """The address of nginx, which has the pages."""
+    if missing_package():
+        pytest.skip(f"there is no {missing_package()}")
     tmp_path.chmod(0o755)
     folder = tmp_path / "site"
     folder.mkdir()
     shutil.copytree(TOP / "examples/client", folder / "examples/client")
     shutil.copy(TOP / "examples/client/bayeux.js", folder)
     for page, title, name in (("README.md", "Connect your own page", "hello"), ("docs/CLIENT.md", "The client for web pages", "page")):
-        (folder / f"{name}.html").write_text(block(page, title, "html"), encoding="utf-8")
-        (folder / f"{name}.js").write_text(block(page, title, "js"), encoding="utf-8")
+        for kind in ("html", "js"):
+            (folder / f"{name}.{kind}").write_text(block(page, title, kind), encoding="utf-8")
     return site(server("--anonymous"), {"/var/www/bayeux": f"{folder}"}).address
 
 
-@pytest.fixture(scope="module")
-def window():
-    """Opens windows of a browser: `window(address)`."""
-    if missing_package():
-        pytest.skip(f"there is no {missing_package()}")
-    # Its folder has a short path, since it has sockets.
+def test_pages_of_the_documents_get_events(address: str) -> None:
+    # The browser's folder has a short path, since it has sockets.
     with tempfile.TemporaryDirectory(prefix="gadzilk-browser-") as folder:
         browser = Browser(folder)
-        yield lambda address: Window(browser, address)
-        browser.end()
-
-
-def test_page_of_the_readme_shows_its_event(address: str, window) -> None:
-    hello = window(f"{address}/hello.html")
-    wait_until("the page is connected", lambda: "connected" in "".join(hello.texts("#log")).split())
-    hello.click("#hello")
-    wait_until("it shows its event", lambda: '/chat/hall {"name":"Page","text":"Hello"}' in "".join(hello.texts("#log")))
-    hello.run("const it = document.createElement('script'); it.textContent = 'window.ran = true'; document.body.append(it)")
-    assert hello.run("return window.ran === true") is False, "an inline script ran"
-
-
-def test_page_of_the_clients_document_gets_events(address: str, window) -> None:
-    page = window(f"{address}/page.html")
-    wait_until("the page is connected", lambda: page.run("return typeof client === 'object' && client.state") == "connected")
-    page.run("client.subscribe('/chat/*', (data) => (window.seen = data))")
-    # The first event may be published before the page has subscribed.
-    wait_until("it gets an event", lambda: (page.run("client.publish('/chat/hall', 'Hello')"), page.run("return window.seen") == "Hello")[1])
+        try:
+            hello, page = Window(browser, f"{address}/hello.html"), Window(browser, f"{address}/page.html")
+            wait_until("the page of README is connected", lambda: "connected" in "".join(hello.texts("#log")).split())
+            hello.click("#hello")
+            wait_until("it shows its event", lambda: '/chat/hall {"name":"Page","text":"Hello"}' in "".join(hello.texts("#log")))
+            hello.run("const it = document.createElement('script'); it.textContent = 'window.ran = true'; document.body.append(it)")
+            assert hello.run("return window.ran === true") is False, "an inline script ran"
+            wait_until("that of CLIENT is connected", lambda: page.run("return typeof client === 'object' && client.state") == "connected")
+            page.run("client.subscribe('/chat/*', (data) => (window.seen = data))")
+            # The first event may be published before the page has subscribed.
+            publish = "client.publish('/chat/hall', 'Hello'); return window.seen"
+            wait_until("it gets an event", lambda: page.run(publish) == "Hello")
+        finally:
+            browser.end()

@@ -11,18 +11,11 @@ import ssl
 import subprocess
 import urllib.parse
 
-from base import TOP, can_connect, end, read, reserved_port, wait_until
+from base import TIMEOUT_SECONDS, TOP, can_connect, end, read, reserved_port, wait_until
 from daemon import HANDSHAKE
 
-# The lines of the configuration that disable callback-polling.
-CALLBACK_POLLING_OFF = "limit_except POST {\n    deny all;\n}\n"
-# How long a response may take, in seconds.
-RESPONSE_SECONDS = 60
-# The header fields of responses at /cometd, whatever their status. Those that differ each time are left out.
-NO_SNIFF = {"X-Content-Type-Options": "nosniff"}
-ANSWER = {"Cache-Control": "no-store", "Content-Disposition": 'attachment; filename="f.txt"', **NO_SNIFF}
-# The form of each line of nginx's log, which has no query.
-LOG_LINE = r'127\.0\.0\.1 \[\d\d/\w{3}/\d{4}(:\d\d){3} [+-]\d{4}\] "[A-Z]+ /[^ ?"]*" \d{3} \d+ (-|\d{3}) (-|\d+\.\d{3}) (-|PASSED|DELAYED|REJECTED)'
+# How many requests nginx must send over one connection.
+REQUESTS = 20
 # Header fields that differ each time.
 CHANGING = {"Date", "Content-Length", "Connection", "Last-Modified", "ETag"}
 
@@ -74,27 +67,31 @@ def has_ipv6():
 
 def adapt(text, folder, changes):
     """Returns `text` with the system's folders moved below `folder`, and with `changes`, a mapping from old texts to new ones."""
-    moved = r"(?<![\w.-])(/etc/nginx/(?!mime)|/var/log/nginx/|/var/www)"
     for old, new in changes.items():
         assert old in text, text
         text = text.replace(old, new)
-    return re.sub(moved, rf"{folder}\1", text)
+    return re.sub(r"(?<![\w.-])(/etc/nginx/(?!mime)|/var/log/nginx/|/var/www)", rf"{folder}\1", text)
 
 
 class Nginx:
-    """A running nginx at `address`, an origin, and requests to it. `args`: its command line. `folder`: that of its files."""
+    """A running nginx, or another server, at `address`, an origin. `args`: its command line. `folder`: that of its files."""
 
-    def __init__(self, address, args, folder):
+    def __init__(self, address, args=(), folder=""):
         self.address, self.args, self.folder = address, args, pathlib.Path(folder)
 
-    def connect(self):
-        """Returns a new connection to nginx, which the context ends."""
+    @property
+    def place(self):
+        """The host and the port."""
         parts = urllib.parse.urlsplit(self.address)
-        if parts.scheme == "http":
-            return contextlib.closing(http.client.HTTPConnection(parts.netloc, timeout=RESPONSE_SECONDS))
+        return parts.hostname, parts.port
+
+    def connect(self):
+        """Returns a new connection, which the context ends."""
+        if self.address.startswith("http:"):
+            return contextlib.closing(http.client.HTTPConnection(*self.place, timeout=TIMEOUT_SECONDS))
         # The certificate is that of the test.
         context = ssl._create_unverified_context()  # pylint: disable=protected-access
-        return contextlib.closing(http.client.HTTPSConnection(parts.netloc, timeout=RESPONSE_SECONDS, context=context))
+        return contextlib.closing(http.client.HTTPSConnection(*self.place, timeout=TIMEOUT_SECONDS, context=context))
 
     def ask(self, path="/cometd", method="POST", body="[]", **headers):
         """Sends a request, and returns the response, whose `text` is its body. `headers`: with _ in place of -."""
@@ -105,33 +102,35 @@ class Nginx:
         """Sends a request as `ask` does, and returns the status."""
         return self.ask(*args, **headers).status
 
-    def fields(self, *args, **headers):
-        """Sends a request as `ask` does. Returns the header fields of the response, without `CHANGING`."""
-        return fields_of(self.ask(*args, **headers))
-
     def send(self, path="/cometd", **message):
         """Sends a message, and returns the items of the response, whose status must be 200."""
         response = self.ask(path, body=json.dumps([message]))
         assert response.status == 200, response.text
         return json.loads(response.text)
 
-    def handshake(self, path="/cometd"):
+    def handshake(self, path="/cometd", **members):
         """Opens a session, and returns its client id."""
-        return self.send(path, **HANDSHAKE)[0]["clientId"]
+        return self.send(path, **HANDSHAKE, **members)[0]["clientId"]
 
-
-def fields_of(response):
-    """Returns the header fields of a response, without `CHANGING`."""
-    return {name: value for name, value in response.getheaders() if name not in CHANGING}
+    def expect_kept_connection(self, server, path="/cometd", **headers):
+        """Checks that nginx opens at most one connection to the daemon `server` for `REQUESTS` requests of one client."""
+        before = server.scrape()["bayeux_connections_total", ""]
+        with self.connect() as connection:
+            assert {ask_over(connection, path, **headers).status for _ in range(REQUESTS)} == {200}
+        assert server.scrape()["bayeux_connections_total", ""] <= before + 1
 
 
 def ask_over(connection, path="/cometd", method="POST", body="[]", **headers):
-    """Sends a request over `connection`, and returns the response, whose `text` is its body. `headers`: with _ in place of -."""
-    fields = {**({"Content-Type": "application/json"} if method == "POST" else {})}
+    """Sends a request over `connection`, and returns the response, whose `text` is its body. `headers`: with _ in place of -.
+
+    `fields` of the response are its header fields, without `CHANGING`.
+    """
+    fields = {"Content-Type": "application/json"} if method == "POST" else {}
     fields.update({name.replace("_", "-"): value for name, value in headers.items()})
     connection.request(method, path, body if method == "POST" else None, fields)
     response = connection.getresponse()
     response.text = response.read().decode()
+    response.fields = {name: value for name, value in response.getheaders() if name not in CHANGING}
     return response
 
 
