@@ -19,7 +19,12 @@ FOR_ALL = "For all who reach it"
 # The header fields of a user with the right password, and of one with a wrong one.
 RIGHT, WRONG = {"Authorization": "Basic YW5uOnNlY3JldA=="}, {"Authorization": "Basic YW5uOndyb25n"}
 # The command that runs a block of each language of the page.
-RUNS = {"sh": ["bash", "-ec"], "python": ["python3", "-c"], "php": ["php", "-r"], "ruby": ["ruby", "-e"], "js": ["node", "-e"]}
+RUNS = {
+    **{"sh": ["bash", "-ec"], "python": ["python3", "-c"], "php": ["php", "-r"], "ruby": ["ruby", "-e"], "js": ["node", "-e"]},
+    **{"go": ["go", "run"], "java": ["java"]},
+}
+# The languages whose programs run only from a file.
+FROM_FILES = {"go", "java"}
 CONNECT = {"channel": "/meta/connect", "connectionType": "long-polling"}
 
 
@@ -148,10 +153,17 @@ def test_backend_publishes(language: str, server, recipe, need, tmp_path: Path) 
     nginx = recipe(block(FOR_ALL), found)
     ben = nginx.handshake()
     nginx.send(channel="/meta/subscribe", subscription="/news/*", clientId=ben)
-    args = [*RUNS[language], adapt(block(title, language).removeprefix("<?php\n"), tmp_path, {"127.0.0.1:8087": text_of(found.address)})]
-    result = subprocess.run(args, capture_output=True, text=True, check=False)
-    assert result.stdout.strip() == block(title, "text").strip(), result.stderr
-    assert nginx.send(**CONNECT, clientId=ben)[:-1] == [{"channel": "/news/today", "data": "Hello"}]
+    texts = [text for it, text in blocks(title) if it == language]
+    assert texts
+    for text in texts:
+        program = adapt(text.removeprefix("<?php\n"), tmp_path, {"127.0.0.1:8087": text_of(found.address)})
+        if language in FROM_FILES:
+            path = tmp_path / f"publish.{language}"
+            path.write_text(program, encoding="utf-8")
+            program = str(path)
+        result = subprocess.run([*RUNS[language], program], capture_output=True, text=True, check=False)
+        assert result.stdout.strip() == block(title, "text").strip(), result.stderr
+    assert nginx.send(**CONNECT, clientId=ben)[:-1] == [{"channel": "/news/today", "data": "Hello"}] * len(texts)
 
 
 def test_curl_lines_of_the_readme_get_an_event(server, need) -> None:
