@@ -13,7 +13,7 @@ from daemon import HANDSHAKE, SEED, expect_error, expect_events, expect_status, 
 from daemon import subscribe
 from documented import ADDRESSES, FLAGS, GREATEST, SWITCHES, TIMES, VALUES
 from metrics import REFUSED_TICKS, TICKED
-from runs import ANYWHERE, CANNOT_LISTEN, cannot, faults, match, no_place, run, without_times
+from runs import ANYWHERE, cannot, faults, match, no_place, run, without_times
 
 # What the log has of settings that are off, and of those that the log leaves out. The log has the others as the page has them.
 OFF = {"record-answers": "false", "until-eof": "false", "ride": "false", "anonymous": "false", "bytes": "no-limit"}
