@@ -129,6 +129,7 @@ def test_archive_is_installed_serves_and_is_removed(release: dist.Release, daemo
 @pytest.fixture
 def packed(tmp_path: Path) -> Path:
     """A folder with the packages of the clients."""
+    pytest.importorskip("tomllib")
     run(f"{TOP}/scripts/package", tmp_path / "packed")
     return tmp_path / "packed"
 

@@ -69,6 +69,13 @@ def test_pages_and_programs_need_no_documents(files):
     assert [it for it in (files / SHARED).rglob("*") if it.name in ("test", "tests")] == []
 
 
+def test_manual_pages_name_installed_files(files):
+    pages = "".join(it.read_text(encoding="utf-8") for it in pathlib.Path(TOP, "packaging").glob("*.[18]"))
+    named = set(re.findall(r"/usr/share/[\w./-]*\w", pages))
+    assert len(named) > 5
+    assert [it for it in named if not (files / it[1:]).exists()] == []
+
+
 def test_copyright_names_each_crate_that_is_linked():
     kit, found = shutil.which("rt"), set()
     named, left = repository.dependencies(), [*dist.PROGRAMS]

@@ -1,5 +1,7 @@
 """The installed package and its service under systemd."""
+import pathlib
 import re
+import shutil
 import subprocess
 
 import pytest
@@ -29,6 +31,15 @@ def test_installed_service_is_enabled_and_serves(installed):
     for command, flag in (("bayeuxd", "--listen"), ("bayeuxd-run", "--until-eof"), ("bayeux_replay", "--patterns"), ("bayeux_record", "--client")):
         complete = f". /usr/share/bash-completion/completions/{command}; COMP_CWORD=1; _bayeux {command} {flag[:-1]} {command}"
         assert installed.run(f'{complete}; echo "${{COMPREPLY[@]}}"') == f"{flag}\n"
+
+
+def test_archive_has_a_service_that_its_script_explains(machine, package):
+    [archive] = pathlib.Path(package).parent.glob("*.tar.gz")
+    shutil.copy(archive, machine.root / "root")
+    machine.run("tar -xzf *.tar.gz; gadzilk-*-linux/install.sh /opt/gadzilk >printed; sed -n 's/^    //p' printed | sh -e")
+    assert show(machine, "bayeuxd", "UnitFileState", "ActiveState", "StatusText") == ["enabled", "active", "listening 127.0.0.1:8087"]
+    assert machine.ask("[]") == "200 []"
+    machine.run("systemctl disable --now bayeuxd; sh -e -c \"$(sed -n 's/^To remove .*: //p' printed)\"; test -z \"$(ls /opt/gadzilk)\"")
 
 
 def test_service_ends_without_an_error_and_is_restarted_if_it_is_killed(installed):
