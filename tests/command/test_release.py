@@ -11,6 +11,7 @@ import dist
 import pytest
 import repository
 from base import TOP, read
+from bayeuxd import Bayeuxd
 from daemon import check_serves, get
 from metrics import ask_for
 from tree import Tree
@@ -107,7 +108,7 @@ def test_pages_name_the_files_and_the_glibc_of_the_release(release: dist.Release
         assert re.findall(r"glibc\s+([\d.]+)\s+or\s+later", read(page)) == [".".join(map(str, newest))], page
 
 
-def test_archive_is_installed_serves_and_is_removed(release: dist.Release, daemon, tmp_path: Path) -> None:
+def test_archive_is_installed_serves_and_is_removed(release: dist.Release, tmp_path: Path) -> None:
     run("tar", "-xzf", f"{dist.FOLDER}/{release.archive}", "-C", tmp_path)
     prefix, own = tmp_path / "prefix", tmp_path / "prefix/bin/own"
     own.parent.mkdir(parents=True)
@@ -119,9 +120,11 @@ def test_archive_is_installed_serves_and_is_removed(release: dist.Release, daemo
     assert f"\nExecStart={prefix}/bin/bayeuxd-run " in (prefix / "lib/systemd/system/bayeuxd.service").read_text(encoding="utf-8")
     paths = {"env": {"PATH": f"{prefix}/bin:/usr/bin:/bin"}}
     assert run("sh", "-c", "bayeux_replay 2 2 30000 0 10000; bayeux_record --help", input="0 P []\n", **paths).startswith("1 200 []\nusage: ")
-    server = daemon("--listen", "127.0.0.1:0", "--metrics", "127.0.0.1:0", program=prefix / "bin/bayeuxd-run", is_plain=True, **paths)
-    check_serves(server.address, "/installed")
-    assert b"<title>" in ask_for(server.metrics, get(b"", b"/")).body
+    flags = ("--listen", "127.0.0.1:0", "--metrics", "127.0.0.1:0")
+    with Bayeuxd(prefix / "bin/bayeuxd-run", tmp_path / "log", *flags, is_plain=True, **paths) as server:
+        server.wait()
+        check_serves(server.address, "/installed")
+        assert b"<title>" in ask_for(server.metrics, get(b"", b"/")).body
     run(prefix / "share/gadzilk/install.sh", "--uninstall", prefix)
     assert [*prefix.rglob("*")] == [own.parent, own]
 
