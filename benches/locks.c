@@ -8,7 +8,6 @@
 #include <linux/futex.h>
 #include <linux/perf_event.h>
 #include <pthread.h>
-#include <sched.h>
 #include <signal.h>
 #include <stdatomic.h>
 #include <stdint.h>
@@ -26,7 +25,7 @@ enum { CLOSE_LOOKS = 1 << 16, MAX_GAP = 2000 };
 /* The lock that is held: none, that of admission, or that of a shard. */
 enum { NONE, ADMISSION, SHARD };
 /* What a site counts: samples of the instruction pointer, or calls. */
-enum { CODE = 1, SPIN, MEMORY, LIBRARY, OBSERVER, ALLOCATE, RESIZE, FREE, YIELD };
+enum { CODE = 1, SPIN, MEMORY, LIBRARY, OBSERVER, ALLOCATE, RESIZE, FREE };
 
 typedef _Atomic uint64_t number;
 
@@ -165,11 +164,6 @@ long observed_syscall(long number, long a, long b, long c, long d, long e, long 
     count_futex(a, b & FUTEX_CMD_MASK, begin);
     errno = error;
     return result;
-}
-
-int sched_yield(void) {
-    if (shared) count(NONE, YIELD, (uintptr_t)__builtin_return_address(0));
-    return call(SYS_sched_yield, 0, 0, 0, 0, 0, 0);
 }
 
 /* The samples. Each thread gets a signal after each `period` nanoseconds of its processor time. */

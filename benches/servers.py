@@ -1,44 +1,32 @@
 """Starts servers for the benchmarks on loopback: bayeuxd, or a bare HTTP server to compare it with."""
 import contextlib
 import os
-import signal
 import subprocess
 import sys
 
 from base import TOP, CheckFailed
 from daemon import SEED, Daemon
 
+# A line of a script for bayeux_replay, with a handshake.
+HANDSHAKE_LINE = '0 P [{"channel":"/meta/handshake","version":"1.0","supportedConnectionTypes":["long-polling"]}]\n'
 
-@contextlib.contextmanager
-def signals_delayed():
-    """Delays the effect of SIGINT and SIGTERM until the end of the context."""
-    came = []
-    handlers = {it: signal.signal(it, lambda number, _: came.append(number)) for it in (signal.SIGINT, signal.SIGTERM)}
-    try:
-        yield
-    finally:
-        for number, handler in handlers.items():
-            signal.signal(number, handler)
-        for number in came:
-            signal.raise_signal(number)
+
+def message_line(channel, number, rest):
+    """Returns a line of a script with one message of session `number`. `rest`: the further members of the message."""
+    return f'0 P [{{"channel":"{channel}","clientId":"{number:048x}",{rest}}}]\n'
 
 
 class ServerProcess(Daemon):
-    """A running server. It is ended if it does not listen, or if a signal interrupts its start."""
+    """A running server."""
 
     def begin(self, args, **streams):
         """Starts the process and waits until it listens. If that fails, ends the process and raises the exception again."""
+        self.start(args, **streams)
         try:
-            super().begin(args, **streams)
+            self.wait()
         except BaseException:
-            if hasattr(self, "process"):
-                self.end()
+            self.end()
             raise
-
-    def start(self, args, **streams):
-        """Starts the process. A signal takes effect only after that, so that the process is known and can be ended."""
-        with signals_delayed():
-            super().start(args, **streams)
 
 
 class Server(ServerProcess):
@@ -54,6 +42,33 @@ class Server(ServerProcess):
         first = ["taskset", "-c", processors] if processors else []
         args = [] if name == "bare" else ["4", "30000", "0", "10000", SEED]
         self.begin([*first, program, "127.0.0.1:0", *args, str(connections)], **streams)
+
+
+@contextlib.contextmanager
+def restricted(processors):
+    """Lets the processes that are started in the context run only on `processors`."""
+    before = os.sched_getaffinity(0)
+    os.sched_setaffinity(0, processors)
+    try:
+        yield
+    finally:
+        os.sched_setaffinity(0, before)
+
+
+def arguments(text, *ranges):
+    """Returns the arguments as integers. For `--help`, prints the help `text` and exits with status 0.
+
+    `ranges`: the least and the greatest value of each argument. All arguments are optional. If one is wrong, prints `text` and
+    exits with status 2.
+    """
+    args = sys.argv[1:]
+    if args in (["--help"], ["-h"]):
+        print(text, end="")
+        sys.exit(0)
+    if len(args) > len(ranges) or not all(it.isdigit() and least <= int(it) <= most for it, (least, most) in zip(args, ranges)):
+        print(text, end="", file=sys.stderr)
+        sys.exit(2)
+    return [int(it) for it in args]
 
 
 def program_of(name, variable):

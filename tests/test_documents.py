@@ -4,6 +4,7 @@ Of one page: `./bayeux test documents -k OPERATING`.
 """
 import functools
 import json
+import os
 import re
 import shlex
 import shutil
@@ -175,6 +176,12 @@ def test_readme_of_tests_has_each_section_and_its_tests() -> None:
 def test_architecture_names_each_crate_once() -> None:
     _, _, items = section("docs/internals/ARCHITECTURE.md", "The crates").partition("\n- ")
     assert sorted(re.findall(r"`(\w+)`", items)) == sorted(repository.libraries())
+
+
+@pytest.mark.parametrize("path", [it for it in tracked() if it.startswith("benches/") and os.access(TOP / it, os.X_OK)])
+def test_each_benchmark_has_a_help(path: str) -> None:
+    result = subprocess.run([TOP / path, "--help"], capture_output=True, check=False, stdin=subprocess.DEVNULL, text=True)
+    assert (result.returncode, result.stderr) == (0, "") and path in result.stdout
 
 
 @functools.cache
