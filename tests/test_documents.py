@@ -178,6 +178,11 @@ def test_architecture_names_each_crate_once() -> None:
     assert sorted(re.findall(r"`(\w+)`", items)) == sorted(repository.libraries())
 
 
+def test_monitor_has_each_metric() -> None:
+    """The help of each is on the page of metrics."""
+    assert known_metrics() - set(re.findall(r"bayeux_\w+", read("docs/MONITOR.md"))) == set()
+
+
 @pytest.mark.parametrize("path", [it for it in tracked() if it.startswith("benches/") and os.access(TOP / it, os.X_OK)])
 def test_each_benchmark_has_a_help(path: str) -> None:
     result = subprocess.run([TOP / path, "--help"], capture_output=True, check=False, stdin=subprocess.DEVNULL, text=True)
