@@ -1,4 +1,5 @@
 """The release in dist/: its packages, as they are installed, and whether its programs are those that this machine proved and built."""
+import fnmatch
 import os
 import re
 import shutil
@@ -159,11 +160,12 @@ def test_npm_packs_the_same_files(packed: Path, tmp_path: Path) -> None:
     assert content(tmp_path / NPM) == content(packed / NPM)
 
 
-def test_pages_name_this_version() -> None:
+def test_pages_name_the_files_of_this_version() -> None:
     assert re.findall(r"^## (.*) \(\d{4}-\d\d-\d\d\)$", read("CHANGELOG.md"), re.MULTILINE)[0] == VERSION
-    pages = [it for it in [*TOP.glob("*.md"), *TOP.glob("docs/*.md"), *TOP.glob("examples/**/*.md")] if it.name != "CHANGELOG.md"]
-    named = [it for page in pages for it in re.findall(r"\bgadzilk[-_](?:client-)?\d[\w.-]+\b", page.read_text(encoding="utf-8"))]
-    assert {f"gadzilk_{VERSION}_amd64.deb", f"{ARCHIVE}.tar.gz"} <= {*named} <= {*FILES, ARCHIVE}
+    pages = "".join(read(it) for it in ("README.md", *(f"docs/{it.name}" for it in TOP.glob("docs/*.md"))))
+    named = set(re.findall(r"\bgadzilk[-_][\w.*-]+\.(?:deb|tar\.gz|tgz|whl)\b", pages))
+    assert FILES - {it for pattern in named for it in fnmatch.filter(FILES, pattern)} == {dist.SOURCES, dist.CHECKSUMS}
+    assert [it for it in named if not fnmatch.filter(FILES, it)] == []
 
 
 @pytest.fixture
