@@ -44,6 +44,7 @@ def recipe(need, tmp_path_factory):
 
 
 @pytest.fixture
-def site(nginx):
+def site(nginx, tmp_path):
     """Starts nginx with nginx.conf: `site(server, changes)` returns an `Nginx`."""
-    return lambda server, changes=None: nginx_server.Nginx(nginx(server.address[1], changes))
+    tmp_path.chmod(0o755)
+    return lambda server, changes=None: nginx_server.Nginx(nginx(server.address[1], changes), folder=tmp_path / f"nginx-{server.address[1]}")

@@ -1,6 +1,7 @@
 """The documented requests of CometD's JavaScript client get the answers that it needs behind nginx."""
+import concurrent.futures
 import json
-import threading
+from collections.abc import Callable
 
 from base import wait_until
 from bayeuxd import Bayeuxd
@@ -25,51 +26,38 @@ class CometD:
         return {"id": str(self.count), "channel": channel, **members, **({"clientId": self.client_id} if self.client_id else {})}
 
     def send(self, path: str, *messages: dict) -> tuple[list, dict]:
-        """Sends messages to `path` below /cometd. Returns the channels and the data of the events, and the replies by their ids."""
+        """Sends messages to `path` below /cometd, which must succeed. Returns the channels and the data of the events, and the last reply."""
         response = self.origin.ask(f"/cometd{path}", body=json.dumps(messages), Content_Type="application/json;charset=UTF-8")
         assert response.status == 200
         items = json.loads(response.text)
-        replies = {it["id"]: it for it in items if "successful" in it}
-        assert list(replies) == [it["id"] for it in messages]
-        return [(it["channel"], it["data"]) for it in items if "successful" not in it], replies
-
-    def ask(self, path: str, channel: str, **members) -> tuple[list, dict]:
-        """Sends one message. Returns the events and the reply, which must be successful and have its channel."""
-        message = self.message(channel, **members)
-        events, replies = self.send(path, message)
-        reply = replies[message["id"]]
-        assert (reply["channel"], reply["successful"]) == (channel, True)
-        return events, reply
+        replies = [it for it in items if "successful" in it]
+        wanted = [(it["id"], it["channel"], True) for it in messages]
+        assert [(it["id"], it["channel"], it["successful"]) for it in replies] == wanted
+        return [(it["channel"], it["data"]) for it in items if "successful" not in it], replies[-1]
 
     def connect(self, ack: int, **members) -> tuple[list, dict]:
         """Sends a connect."""
-        return self.ask("/connect", "/meta/connect", connectionType="long-polling", ext={"ack": ack}, **members)
+        return self.send("/connect", self.message("/meta/connect", connectionType="long-polling", ext={"ack": ack}, **members))
 
-    def connect_during(self, ack: int, server: Bayeuxd, action) -> tuple[list, dict]:
+    def connect_during(self, ack: int, server: Bayeuxd, action: Callable) -> tuple[list, dict]:
         """Sends a connect, calls `action` while it is held, and returns what `connect` does."""
-        message = self.message("/meta/connect", connectionType="long-polling", ext={"ack": ack})
-        results: list = []
-        thread = threading.Thread(target=lambda: results.extend(self.send("/connect", message)))
 
-        def held():
+        def held() -> float:
             return server.scrape()["bayeux_connects_held", ""]
 
         # The metric is that of the last tick, so it may still count an earlier connect.
         wait_until("no connect is held", lambda: held() == 0)
-        thread.start()
-        try:
-            wait_until("a connect is held", lambda: held() == 1 or not thread.is_alive())
+        with concurrent.futures.ThreadPoolExecutor() as pool:
+            connecting = pool.submit(self.connect, ack)
+            wait_until("a connect is held", lambda: held() == 1 or connecting.done())
             action()
-        finally:
-            thread.join()
-        assert results, "the held connect got no response"
-        return results[0], results[1][message["id"]]
+            return connecting.result()
 
 
 def test_session_of_cometds_client(server, site) -> None:
     server = server()
     client = CometD(site(server))
-    _, reply = client.ask("/handshake", "/meta/handshake", ext={"ack": True}, **HANDSHAKE)
+    _, reply = client.send("/handshake", client.message("/meta/handshake", ext={"ack": True}, **HANDSHAKE))
     assert reply["supportedConnectionTypes"] == TYPES[1:]
     assert (reply["version"], reply["ext"], reply["advice"]["reconnect"]) == ("1.0", {"ack": True}, "retry")
     client.client_id = reply["clientId"]
@@ -77,14 +65,13 @@ def test_session_of_cometds_client(server, site) -> None:
     _, reply = client.connect(-1, advice={"timeout": 0})
     batch = [client.message("/meta/subscribe", subscription=it) for it in ("/a/*", "/b")]
     batch += [client.message("/a/x", data={"n": number}) for number in range(3)]
-    batch += [client.message("/meta/unsubscribe", subscription="/b")]
-    events, replies = client.send("/", *batch)
-    assert [(it["channel"], it["successful"]) for it in replies.values()] == [(it["channel"], True) for it in batch]
+    events, _ = client.send("/", *batch, client.message("/meta/unsubscribe", subscription="/b"))
     # The events are in the response to the batch, or in that to the next connect.
     more, reply = client.connect(reply["ext"]["ack"])
     assert [*events, *more] == [("/a/x", {"n": number}) for number in range(3)]
     # A held connect gets an event. Another one is answered when the client disconnects.
-    events, reply = client.connect_during(reply["ext"]["ack"], server, lambda: client.ask("/", "/a/y", data="held"))
+    publish, disconnect = client.message("/a/y", data="held"), client.message("/meta/disconnect")
+    events, reply = client.connect_during(reply["ext"]["ack"], server, lambda: client.send("/", publish))
     assert events == [("/a/y", "held")]
-    _, reply = client.connect_during(reply["ext"]["ack"], server, lambda: client.ask("/disconnect", "/meta/disconnect"))
+    _, reply = client.connect_during(reply["ext"]["ack"], server, lambda: client.send("/disconnect", disconnect))
     assert reply["advice"]["reconnect"] == "none"

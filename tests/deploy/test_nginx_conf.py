@@ -5,7 +5,6 @@ import socket
 import ssl
 import urllib.parse
 from pathlib import Path
-from typing import NamedTuple
 
 import pytest
 from base import TIMEOUT_SECONDS, read, wait_until
@@ -51,29 +50,25 @@ LOGGED = {"POST /cometd 200", "GET /cometd 403", "GET /hello.html 200", "GET /ot
 LOG_LINE = r'127\.0\.0\.1 \[\d\d/\w{3}/\d{4}(:\d\d){3} [+-]\d{4}\] "[A-Z]+ /[^ ?"]*" \d{3} \d+ (-|\d{3}) (-|\d+\.\d{3}) (-|PASSED|DELAYED|REJECTED)'
 
 
-class Front(NamedTuple):
-    """nginx in front of a daemon. `folder`: that of nginx's files."""
-
-    nginx: Nginx
-    server: Bayeuxd
-    folder: Path
+@pytest.fixture
+def found(server) -> Bayeuxd:
+    """A daemon."""
+    return server()
 
 
 @pytest.fixture
-def front(server, site, tmp_path: Path) -> Front:
-    """nginx in front of a daemon, with two files for browsers."""
-    tmp_path.chmod(0o755)
+def front(found: Bayeuxd, site, tmp_path: Path) -> Nginx:
+    """nginx in front of the daemon, with two files for browsers."""
     (tmp_path / "site").mkdir()
     for name in ("hello.html", "hello.js"):
         (tmp_path / "site" / name).write_text("text", encoding="ascii")
-    found = server()
-    return Front(site(found, {"/var/www/bayeux": f"{tmp_path}/site"}), found, tmp_path / f"nginx-{found.address[1]}")
+    return site(found, {"/var/www/bayeux": f"{tmp_path}/site"})
 
 
-def test_header_fields_and_logs(front: Front) -> None:
+def test_header_fields_and_logs(front: Nginx) -> None:
     """All requests are in the log, and no log has a query."""
     for what, (args, headers, status, fields) in REQUESTS.items():
-        response = front.nginx.ask(*args, **{name: value.replace("ADDRESS", front.nginx.address) for name, value in headers.items()})
+        response = front.ask(*args, **{name: value.replace("ADDRESS", front.address) for name, value in headers.items()})
         assert (response.status, response.fields) == (status, fields), what
     listen = re.search(r"listen (127\.0\.0\.1:\d+);", (front.folder / "etc/nginx/nginx.conf").read_text(encoding="utf-8"))
     assert listen
@@ -87,16 +82,16 @@ def test_header_fields_and_logs(front: Front) -> None:
     assert [it.name for it in front.folder.glob("**/*.log") if "SECRET" in it.read_text(encoding="utf-8")] == []
 
 
-def test_browsers_get_http_2(front: Front) -> None:
+def test_browsers_get_http_2(front: Nginx) -> None:
     context = ssl._create_unverified_context()
     context.set_alpn_protocols(["h2", "http/1.1"])
-    with socket.create_connection(front.nginx.place, TIMEOUT_SECONDS) as connection:
+    with socket.create_connection(front.place, TIMEOUT_SECONDS) as connection:
         with context.wrap_socket(connection, server_hostname="localhost") as it:
             assert it.selected_alpn_protocol() == "h2"
 
 
-def test_requests_share_a_connection_to_the_server(front: Front) -> None:
-    front.nginx.expect_kept_connection(front.server)
+def test_requests_share_a_connection_to_the_server(front: Nginx, found: Bayeuxd) -> None:
+    front.expect_kept_connection(found)
 
 
 def test_long_query_of_callback_polling_is_answered_if_it_is_allowed(server, site) -> None:
@@ -105,10 +100,10 @@ def test_long_query_of_callback_polling_is_answered_if_it_is_allowed(server, sit
     assert (response.status, response.getheader("Cache-Control")) == (200, "no-store")
 
 
-def test_ipv6_is_served(front: Front) -> None:
+def test_ipv6_is_served(front: Nginx) -> None:
     if not has_ipv6():
         pytest.skip("the machine has no IPv6")
-    assert Nginx(f"https://[::1]:{front.nginx.place[1]}").status(Host="localhost") == 200
+    assert Nginx(f"https://[::1]:{front.place[1]}").status(Host="localhost") == 200
 
 
 def test_clients_have_the_limits_and_a_worker_has_the_connections_of_the_documents() -> None:

@@ -23,7 +23,6 @@ def address(server, site, tmp_path: Path) -> str:
     """The address of nginx, which has the pages."""
     if missing_package():
         pytest.skip(f"there is no {missing_package()}")
-    tmp_path.chmod(0o755)
     folder = tmp_path / "site"
     folder.mkdir()
     shutil.copytree(TOP / "examples/client", folder / "examples/client")

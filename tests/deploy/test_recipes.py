@@ -28,14 +28,9 @@ FROM_FILES = {"go", "java"}
 CONNECT = {"channel": "/meta/connect", "connectionType": "long-polling"}
 
 
-def blocks(title: str) -> list[tuple[str, str]]:
-    """Returns the language and the text of each fenced block in the section `title`."""
-    return re.findall(r"^```(\w+)\n(.*?)^```$", section(PAGES.get(title, "docs/RECIPES.md"), title), re.M | re.S)
-
-
 def block(title: str, language: str = "nginx", at: int = 0) -> str:
-    """Returns the text of block number `at` in this language, counted from 0, in the section `title`."""
-    return [text for found, text in blocks(title) if found == language][at]
+    """Returns the text of the fenced block number `at` in this language, counted from 0, in the section `title`."""
+    return re.findall(rf"^```{language}\n(.*?)^```$", section(PAGES.get(title, "docs/RECIPES.md"), title), re.M | re.S)[at]
 
 
 def text_of(address: tuple[str, int]) -> str:

@@ -5,6 +5,7 @@ import fcntl
 import hashlib
 import os
 import pathlib
+import platform
 import shlex
 import shutil
 import signal
@@ -22,8 +23,8 @@ DOWNLOAD = f"apt-get clean && apt-get install -y -qq --download-only --no-instal
 UPDATED = "/var/lib/man-db/auto-update"
 TOOLS = {"mmdebstrap": "mmdebstrap", "systemd-nspawn": "systemd-container", "nsenter": "util-linux", "setpriv": "util-linux"}
 NEW_NETWORK = 0x40000000
-# How long a command in the container may take, in seconds.
-COMMAND_SECONDS = 120
+# How long the container may take to start, and a command in it, in seconds. A machine that does other work may be many times slower.
+COMMAND_SECONDS = 1800
 
 
 class CannotRun(Exception):
@@ -32,9 +33,8 @@ class CannotRun(Exception):
 
 def release():
     """Returns the code name of this machine's Debian. Raises `CannotRun` if it is another system."""
-    lines = pathlib.Path("/etc/os-release").read_text(encoding="utf-8").splitlines()
-    fields = dict(it.replace('"', "").split("=", 1) for it in lines if "=" in it)
-    if fields.get("ID") != "debian":
+    fields = platform.freedesktop_os_release()
+    if fields["ID"] != "debian":
         raise CannotRun("this machine has no Debian, whose release would be taken")
     return fields["VERSION_CODENAME"]
 
@@ -76,7 +76,7 @@ class Machine:
             fcntl.flock(lock, fcntl.LOCK_EX)
             self.process = subprocess.Popen(args, stdin=subprocess.DEVNULL, stdout=log, stderr=log, pass_fds=[lock.fileno()])
         try:
-            wait_until("the container runs", lambda: self.process.poll() is not None or self.has_started())
+            self.wait("the container runs", lambda: self.process.poll() is not None or self.has_started())
         except AssertionError as error:
             self.end()
             raise CannotRun("systemd does not start in a container") from error
@@ -111,13 +111,17 @@ class Machine:
         assert result.returncode == status, f"status {result.returncode} of\n{script}\n{result.stdout}"
         return result.stdout
 
+    def wait(self, what, condition):
+        """Waits until `condition()` returns a true value. `what`: the condition in words."""
+        wait_until(what, condition, COMMAND_SECONDS, 0.2)
+
     def start(self, script):
         """Starts a shell script in the container, and returns the process without waiting."""
         return subprocess.Popen(self.command(script), stdin=subprocess.DEVNULL, stdout=subprocess.PIPE, text=True)
 
     def ask(self, body, address="http://127.0.0.1:8087/cometd", *args):
         """Posts `body` in the container, and returns the response: its status, a space, and its text. `args`: more arguments of curl."""
-        post = ["curl", "-sk", "-m", "20", "-w", "\\n%{http_code}", "-H", "Content-Type: application/json", "-d", body, *args, address]
+        post = ["curl", "-sk", "-w", "\\n%{http_code}", "-H", "Content-Type: application/json", "-d", body, *args, address]
         text, _, status = subprocess.run(self.command(shlex.join(post)), capture_output=True, text=True, check=False).stdout.rpartition("\n")
         return f"{status} {text}"
 

@@ -20,13 +20,6 @@ REQUESTS = 20
 CHANGING = {"Date", "Content-Length", "Connection", "Last-Modified", "ETag"}
 
 
-def make_certificate(folder):
-    """Creates a certificate for localhost, valid for a day, and its key in `folder`."""
-    certificate = ["openssl", "req", "-x509", "-newkey", "rsa:2048", "-nodes", "-days", "1", "-subj", "/CN=localhost"]
-    certificate += ["-keyout", f"{folder}/key.pem", "-out", f"{folder}/chain.pem"]
-    subprocess.run(certificate, check=True, stderr=subprocess.DEVNULL)
-
-
 def write_configuration(folder, main, changes):
     """Writes the configuration `main`, and bayeux.conf and location.conf, below `folder`, in place of the system's folders.
 
@@ -155,7 +148,9 @@ def serving(upstream, folder, changes):
     """
     with reserved_port() as plain, reserved_port() as secure:
         write_configuration(folder, read("packaging/nginx/nginx.conf"), {**own_changes(upstream, plain, secure, folder), **changes})
-        make_certificate(f"{folder}/etc/nginx/bayeux")
+        place = f"{folder}/etc/nginx/bayeux"
+        how = ["-nodes", "-days", "1", "-subj", "/CN=localhost", "-keyout", f"{place}/key.pem", "-out", f"{place}/chain.pem"]
+        subprocess.run(["openssl", "req", "-x509", "-newkey", "rsa:2048", *how], check=True, stderr=subprocess.DEVNULL)
         with running(folder, secure):
             yield f"https://localhost:{secure}"
 

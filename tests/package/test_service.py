@@ -4,11 +4,8 @@ import re
 import shutil
 import subprocess
 
-import pytest
-from base import read, wait_until
+from base import read
 
-# One process makes the package. The first container takes minutes, and only one runs at a time on a machine.
-pytestmark = [pytest.mark.xdist_group("package"), pytest.mark.timeout(600)]
 SETTINGS = "/etc/default/bayeuxd"
 # Makes settings for a second instance, with another port.
 SECOND = f"sed 's/^#BAYEUXD_LISTEN=.*/BAYEUXD_LISTEN=127.0.0.1:8088/' {SETTINGS} >{SETTINGS}@two"
@@ -47,7 +44,7 @@ def test_service_ends_without_an_error_and_is_restarted_if_it_is_killed(installe
     installed.run("systemctl stop bayeuxd")
     assert show(installed, "bayeuxd", "Result", "ExecMainStatus") == ["success", "0"]
     installed.run("systemctl start bayeuxd; systemctl kill --signal KILL bayeuxd")
-    wait_until("the service runs again", lambda: show(installed, "bayeuxd", "NRestarts", "ActiveState") == ["1", "active"])
+    installed.wait("the service runs again", lambda: show(installed, "bayeuxd", "NRestarts", "ActiveState") == ["1", "active"])
     assert installed.ask("[]") == "200 []"
 
 
@@ -59,27 +56,27 @@ def test_service_with_a_wrong_flag_does_not_start_again(installed):
 def test_instance_needs_settings(installed):
     installed.run("! systemctl start bayeuxd@two")
     what = "cannot open '/etc/default/bayeuxd@two'"
-    wait_until("the log names the file", lambda: what in installed.run("journalctl -u bayeuxd@two"))
+    installed.wait("the log names the file", lambda: what in installed.run("journalctl -u bayeuxd@two"))
     assert "/etc/default/bayeuxd@two (code=exited, status=1/FAILURE)" in installed.run("systemctl status bayeuxd@two || true")
     installed.run(f"systemctl stop bayeuxd@two; {SECOND}; systemctl start bayeuxd@two")
     assert installed.ask("[]", "http://127.0.0.1:8088/cometd") == "200 []"
 
 
-def next_package(machine, folder):
-    """Puts a package into the container as /root/next.deb: the next version, with other text in all files for settings."""
-    tree = folder / "tree"
+def next_package(machine, tree):
+    """Puts a package into the container as /root/next.deb: the next version, with other settings. `tree`: a new folder.
+
+    The settings are no file of the package, because an upgrade without a terminal would stop if an operator had changed it.
+    """
     subprocess.run(["dpkg-deb", "--raw-extract", machine.root / "root/gadzilk.deb", tree], check=True)
+    assert not (tree / "DEBIAN/conffiles").exists()
     control = tree / "DEBIAN/control"
     control.write_text(re.sub("(?m)^Version: .*$", r"\g<0>+next", control.read_text(encoding="utf-8")), encoding="utf-8")
-    settings = tree / "DEBIAN/conffiles"
-    for it in [*(settings.read_text(encoding="utf-8").split() if settings.exists() else []), "/usr/share/gadzilk/bayeuxd.default"]:
-        (tree / it[1:]).write_text("# Changed.\n", encoding="utf-8")
-    args = ["dpkg-deb", "--root-owner-group", "-Znone", "--build", tree, machine.root / "root/next.deb"]
-    subprocess.run(args, check=True, stdout=subprocess.DEVNULL)
+    (tree / "usr/share/gadzilk/bayeuxd.default").write_text("# Changed.\n", encoding="utf-8")
+    subprocess.run(["dpkg-deb", "--root-owner-group", "-Znone", "--build", tree, machine.root / "root/next.deb"], check=True)
 
 
 def test_upgrade_without_a_terminal_keeps_settings_and_restarts_what_runs(installed, tmp_path):
-    next_package(installed, tmp_path)
+    next_package(installed, tmp_path / "tree")
     installed.run(f"echo 'BAYEUXD_OPTIONS=\"--anonymous\"' >>{SETTINGS}; {SECOND}; systemctl restart bayeuxd; systemctl start bayeuxd@two")
     settings, units = installed.read(SETTINGS), ("bayeuxd", "bayeuxd@two")
     before = [show(installed, it, "MainPID") for it in units]

@@ -4,13 +4,11 @@ import re
 import tempfile
 
 import pytest
-from base import wait_until
+from base import retry
 from browser import Browser, missing_package
 from nginx import Nginx
 from pages import Chat, talk
 
-# One process makes the package. The first container takes minutes, and only one runs at a time on a machine.
-pytestmark = [pytest.mark.xdist_group("package"), pytest.mark.timeout(600)]
 SITE = "https://localhost"
 CERTIFICATE = "openssl req -x509 -newkey rsa:2048 -nodes -days 30 -subj /CN=localhost -keyout key.pem -out chain.pem"
 EVENT = {"channel": "/chat/hall", "data": "Hello"}
@@ -31,39 +29,45 @@ def listening(machine):
     return {it for it in (line.split()[3] for line in lines) if not it.startswith("127.0.0.1:")}
 
 
+def expect_visitors_to_read():
+    """Checks that visitors get what a program publishes, and cannot publish."""
+    nginx, program = Nginx(SITE), Nginx("http://127.0.0.1:8087")
+    visitor = nginx.handshake()
+    nginx.send(channel="/meta/subscribe", subscription="/chat/*", clientId=visitor)
+    assert nginx.status(body=json.dumps([{**EVENT, "clientId": visitor}])) == 403
+    assert program.send(**EVENT, clientId=program.handshake())[0]["successful"] is True
+    assert nginx.send(channel="/meta/connect", connectionType="long-polling", clientId=visitor)[0] == EVENT
+
+
 def test_setup_runs_twice(certified):
     replaced = [certified.read(it) for it in KEPT]
     output = certified.run("gadzilk-setup localhost")
     assert f"Visitors read at {SITE}/cometd" in output
     assert [certified.read(f"{it}.~1~") for it in KEPT] == replaced
-    wait_until("only nginx listens", lambda: listening(certified) == {"0.0.0.0:80", "0.0.0.0:443", "[::]:80", "[::]:443"})
+    certified.wait("only nginx listens", lambda: listening(certified) == {"0.0.0.0:80", "0.0.0.0:443", "[::]:80", "[::]:443"})
     with certified.network():
-        nginx = Nginx(SITE, [], "")
-        assert nginx.status("/", "GET") == 200
-        assert {nginx.status(f"/{it}", "GET") for it in ("chat/", "chat/chat.js", "common/page.css", "client/bayeux.js", "dashboard/")} == {200}
-        visitor, program = nginx.handshake(), Nginx("http://127.0.0.1:8087", [], "")
-        nginx.send(channel="/meta/subscribe", subscription="/chat/*", clientId=visitor)
-        assert nginx.status(body=json.dumps([{**EVENT, "clientId": visitor}])) == 403
-        assert program.send(**EVENT, clientId=program.handshake())[0]["successful"] is True
-        assert nginx.send(channel="/meta/connect", connectionType="long-polling", clientId=visitor)[0] == EVENT
+        for it in ("", "chat/", "chat/chat.js", "common/page.css", "client/bayeux.js", "dashboard/"):
+            assert Nginx(SITE).status(f"/{it}", "GET") == 200, it
+        # On a slow machine, a session may expire meanwhile.
+        retry(expect_visitors_to_read, 9)
     query = "curl -s http://127.0.0.1:9090/api/v1/{} || true"
-    wait_until("Prometheus scrapes bayeuxd", lambda: '"1"' in certified.run(query.format("query?query=up%7Bjob=%22bayeuxd%22%7D")))
+    certified.wait("Prometheus scrapes bayeuxd", lambda: '"1"' in certified.run(query.format("query?query=up%7Bjob=%22bayeuxd%22%7D")))
     assert "BayeuxGone" in certified.run(query.format("rules"))
     # Again, with a page that an operator changed.
     certified.write("/var/www/bayeux/chat/index.html", "changed")
-    services = "bayeuxd nginx prometheus"
-    before = certified.run(f"systemctl show -P MainPID {services}; find /etc -type f | sort | xargs md5sum")
+    state = "systemctl show -P MainPID bayeuxd nginx prometheus; find /etc -type f | sort | xargs md5sum"
+    before = certified.run(state)
     assert "wrote" not in certified.run("gadzilk-setup localhost")
-    assert certified.run(f"systemctl show -P MainPID {services}; find /etc -type f | sort | xargs md5sum") == before
+    assert certified.run(state) == before
     assert certified.read("/var/www/bayeux/chat/index.html") == "changed"
     certified.run(f"{CERTIFICATE}; gadzilk-setup localhost; cmp chain.pem /etc/nginx/bayeux/chain.pem; test -e /etc/nginx/bayeux/chain.pem.~1~")
 
 
 def test_exporter_that_is_there_listens_on_loopback(certified):
     certified.run("apt-get install -y --no-install-recommends prometheus prometheus-node-exporter")
-    wait_until("both listen at all addresses", lambda: {"*:9090", "*:9100"} <= listening(certified))
+    certified.wait("both listen at all addresses", lambda: {"*:9090", "*:9100"} <= listening(certified))
     certified.run("gadzilk-setup localhost")
-    wait_until("both listen on loopback", lambda: not {it for it in listening(certified) if not it.endswith((":80", ":443"))})
+    certified.wait("both listen on loopback", lambda: not {it for it in listening(certified) if not it.endswith((":80", ":443"))})
 
 
 def test_setup_changes_nothing_if_it_cannot_start(certified):
@@ -86,7 +90,10 @@ def test_setup_stops_at_the_first_error(certified):
     certified.write("/root/key.pem", "wrong")
     assert certified.run("gadzilk-setup localhost", status=1).endswith("gadzilk-setup: stopped, and did nothing further\n")
     assert certified.run("systemctl is-active nginx; curl -s http://127.0.0.1/ | grep -c Welcome; ls /etc/prometheus").split()[:2] == ["active", "2"]
-    certified.run(f"{CERTIFICATE}; gadzilk-setup localhost")
+    certified.run(f"{CERTIFICATE}; systemd-run --unit other python3 -m http.server 443")
+    certified.wait("another program has the port", lambda: "*:443" in listening(certified) or "0.0.0.0:443" in listening(certified))
+    assert "nginx does not start: nginx: [emerg] bind() to 0.0.0.0:443 failed" in certified.run("gadzilk-setup localhost", status=1)
+    certified.run("systemctl stop other; gadzilk-setup localhost")
 
 
 @pytest.mark.browser

@@ -2,12 +2,9 @@
 import re
 import tempfile
 
-import pytest
-from base import read, section, wait_until
+from base import section, wait_until
 from browser import Browser, Window, missing_package
 
-# One process makes the package. The first container takes minutes, and only one runs at a time on a machine.
-pytestmark = [pytest.mark.xdist_group("package"), pytest.mark.timeout(600)]
 PAGE = "https://localhost/load/"
 PUBLISH = """
 window.outcome = '';
@@ -38,46 +35,38 @@ def follow(machine, blocks):
             printed = machine.run(text)
 
 
-class LoadPage:
-    """The tutorial's page in a browser."""
+def count(page):
+    """Returns the number of points of the page's curve."""
+    return len((page.run("return document.getElementById('curve').getAttribute('points')") or "").split())
 
-    def __init__(self, browser):
-        self.window = Window(browser, PAGE)
 
-    def wait(self, state):
-        wait_until(f"the page says {state}", lambda: self.window.text("#state").startswith(state))
-
-    def count(self):
-        """Returns the number of points of the curve."""
-        return len((self.window.run("return document.getElementById('curve').getAttribute('points')") or "").split())
-
-    def wait_growth(self):
-        before = self.count()
-        wait_until("the curve grows", lambda: self.count() > before + 2)
+def look(page, step):
+    """Checks what the step of this number says of the tutorial's page."""
+    wait_until("the page is connected", lambda: page.text("#state").startswith("connected"))
+    if step in "567":
+        before = count(page)
+        wait_until("the curve grows", lambda: count(page) > before + 2)
+    if step == "5":
+        assert re.fullmatch(r"\d+\.\d\d", page.text("#value"))
+    if step == "6":
+        page.run(PUBLISH)
+        assert "HTTP status 403" in wait_until("the publish is settled", lambda: page.run("return outcome"))
 
 
 def test_tutorial(machine):
     """Without a browser, only the commands run."""
-    machine.run(f"mv gadzilk.deb gadzilk_{read('VERSION').strip()}_amd64.deb")
+    name = re.search(r"\./(gadzilk_\S+\.deb)", section("docs/TUTORIAL.md", "A live dashboard"))[1]
+    machine.run(f"mv gadzilk.deb {name}")
     # Its folder has a short path, since it has sockets.
     with tempfile.TemporaryDirectory(prefix="gadzilk-browser-") as folder, machine.network():
-        browser = None if missing_package() else Browser(folder)
+        browser = page = None if missing_package() else Browser(folder)
         try:
             for title, blocks in steps():
                 follow(machine, blocks)
-                if not browser:
-                    continue
-                if title[0] in "35":
-                    page = LoadPage(browser)
-                    page.wait("connected")
-                if title[0] in "567":
-                    page.wait("connected")
-                    page.wait_growth()
-                if title[0] == "5":
-                    assert re.fullmatch(r"\d+\.\d\d", page.window.text("#value"))
-                if title[0] == "6":
-                    page.window.run(PUBLISH)
-                    assert "HTTP status 403" in wait_until("the publish is settled", lambda: page.window.run("return outcome"))
+                if browser and title[0] in "35":
+                    page = Window(browser, PAGE)
+                if browser and title[0] in "3567":
+                    look(page, title[0])
         finally:
             if browser:
                 browser.end()
