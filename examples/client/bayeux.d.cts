@@ -81,6 +81,10 @@ export interface ClientEvents {
   error: FailureEvent;
 }
 
+// Node's types have no names for these.
+type Adding = Parameters<EventTarget['addEventListener']>;
+type Removing = Parameters<EventTarget['removeEventListener']>;
+
 export class BayeuxClient extends EventTarget {
   static readonly BayeuxError: typeof BayeuxError;
   /** Creates a client that is stopped. Throws a TypeError if an argument is wrong. */
@@ -118,9 +122,9 @@ export class BayeuxClient extends EventTarget {
   events<T = unknown>(pattern: string, options?: { signal?: AbortSignal }): AsyncIterableIterator<BayeuxEvent<T>>;
   /** Publishes. The promise rejects with a BayeuxError. */
   publish(channel: string, data: unknown): Promise<void>;
-  addEventListener<K extends keyof ClientEvents>(type: K, listener: (event: ClientEvents[K]) => void, options?: boolean | AddEventListenerOptions): void;
-  addEventListener(type: string, listener: EventListenerOrEventListenerObject | null, options?: boolean | AddEventListenerOptions): void;
-  removeEventListener<K extends keyof ClientEvents>(type: K, listener: (event: ClientEvents[K]) => void, options?: boolean | EventListenerOptions): void;
-  removeEventListener(type: string, listener: EventListenerOrEventListenerObject | null, options?: boolean | EventListenerOptions): void;
+  addEventListener<K extends keyof ClientEvents>(type: K, listener: (event: ClientEvents[K]) => void, options?: Adding[2]): void;
+  addEventListener(...args: Adding): void;
+  removeEventListener<K extends keyof ClientEvents>(type: K, listener: (event: ClientEvents[K]) => void, options?: Removing[2]): void;
+  removeEventListener(...args: Removing): void;
 }
 export default BayeuxClient;

@@ -91,8 +91,8 @@ test('a message that may not have been sent returns to the field', async () => {
     else page.publish.resolve();
     await nextTurn();
   };
-  const [lost, refused] = [{ code: 'timeout', message: 'no answer in time', mayHaveArrived: true }, { code: 'rejected', message: '402::Unknown client', mayHaveArrived: false, reply: 402 }];
-  const [unsure, failed] = ['No answer: it may have been sent.', 'Not sent: the server has ended the session, and a new one begins. Send it again.'];
+  const [lost, refused] = [{ code: 'timeout', mayHaveArrived: true }, { code: 'rejected', reply: 402, mayHaveArrived: false }];
+  const [unsure, failed] = [lost, refused].map(page.run('publishErrorText'));
   page.isSlow = true;
   for (const text of ['', '  ', ' Once', 'Twice', 'Third', 'Fourth']) write(text);
   assert.deepEqual([sent(), shown()], [[' Once'], ['', '']], 'one message at a time, and none that is blank');
@@ -133,30 +133,9 @@ test('a message that may not have been sent returns to the field', async () => {
     await end();
   }
   assert.deepEqual(sent().slice(3), ['Sixth', 'Seventh', undefined, 'Seventh', 'Seventh']);
-  assert.deepEqual([new Set(page.publishes.map(([, { mark }]) => mark)).size, join('Ann').run('OWN_MARK') === late.mark], [2, false]);
-});
-
-// Texts that wait are sent one after another, shown whole, and not lost if a response fails.
-test('texts that wait are sent one after another', async () => {
-  const page = join('Ann');
-  const texts = Array.from({ length: 240 }, (_, number) => `${number} `.padEnd(2000, 'x'));
-  page.isSlow = true;
-  for (const text of texts) {
-    page.element('text').value = text;
-    submit(page, 'write');
-  }
-  const half = texts.length / 2;
-  for (let count = 1; count <= half; count++) {
-    page.client.listeners.get('/chat/hall')(page.publishes.at(-1)[1]);
-    if (count % 3) page.publish.resolve();
-    else page.publish.reject({ message: 'no answer in time', mayHaveArrived: true });
-    await nextTurn();
-  }
-  page.publish.reject({ message: '402::Unknown client', mayHaveArrived: false });
-  await nextTurn();
-  assert.deepEqual(page.publishes.map(([, { text, number }]) => [text, number]), texts.slice(0, half + 1).map((text, at) => [text, at + 1]));
-  assert.deepEqual(page.element('messages').children.map((it) => it.children[1].textContent), texts.slice(0, half));
-  assert.deepEqual([page.element('text').value, page.run('OWN_MARK').length > 5], [texts.slice(half).join(' '), true]);
+  const own = page.publishes.map(([, it]) => it).filter(({ text }) => text);
+  assert.deepEqual(own.map(({ mark, number }) => [mark, number]), own.map((_, at) => [late.mark, at + 1]));
+  assert.ok(late.mark.length > 5 && join('Ann').run('OWN_MARK') !== late.mark);
 });
 
 // Who is online: all whose page has said so, until they leave or say nothing for too long (examples/common/presence.js).
@@ -204,14 +183,15 @@ test('who is online, and who writes', () => {
   assert.deepEqual([names.length, names.at(-1).length], [500, 40]);
 });
 
-// At a listener for readers, the page says so at once. Other failures of the first publish show in the state.
-test('a listener for readers', async () => {
-  for (const [failure, text] of [[{ message: 'x', mayHaveArrived: false, status: 403 }, 'Not sent: pages may only read here, or the server rejects this one. Sending it again does not help.'], [{ message: 'x', mayHaveArrived: true }, '']]) {
+// Where pages may only read, the page says so at once. Other failures of the first publish show in the state.
+test('a page that may only read', async () => {
+  for (const failure of [{ code: 'forbidden', status: 403, mayHaveArrived: false }, { code: 'timeout', mayHaveArrived: true }]) {
     const page = join('Ann');
     page.failure = failure;
     page.client.onstate('connected', '');
     await nextTurn();
-    assert.deepEqual(chatOf(page), [text ? 'messages write problem' : 'messages write', '', text, []]);
+    const isShown = failure.status === 403;
+    assert.deepEqual(chatOf(page).slice(0, 3), [`messages write${isShown ? ' problem' : ''}`, '', isShown ? page.run('publishErrorText')(failure) : '']);
   }
 });
 

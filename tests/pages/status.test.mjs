@@ -156,21 +156,15 @@ test('the pointer shows the values of a time', async () => {
   const page = new Page();
   const start = page.now;
   await page.answer(metrics(1));
-  const text = (selector) => page.chart('Sessions').querySelector(selector).textContent;
-  const shown = () => [text('.value'), text('.now').split(' ')[0]];
-  page.chart('Sessions').querySelector('.plot').dispatchEvent(Object.assign(new Event('pointermove'), { clientX: 100 }));
-  assert.deepEqual(shown(), ['1', 'at']);
-  page.chart('Sessions').querySelector('.plot').dispatchEvent(new Event('pointerleave'));
   await page.next(metrics(2));
+  const part = (selector) => page.chart('Sessions').querySelector(selector);
+  const shown = () => [part('.value').textContent, part('.now').textContent];
   for (const end of ['pointerleave', 'pointercancel']) {
-    assert.deepEqual(shown(), ['2', 'now']);
-    const plot = page.chart('Sessions').querySelector('.plot');
-    plot.dispatchEvent(Object.assign(new Event('pointermove'), { clientX: 100 }));
-    assert.deepEqual(shown(), ['1', 'at']);
-    assert.equal(text('.now'), `at ${new Date(start).toLocaleTimeString()}`);
-    plot.dispatchEvent(new Event(end));
+    part('.plot').dispatchEvent(Object.assign(new Event('pointermove'), { clientX: 100 }));
+    assert.deepEqual(shown(), ['1', `at ${new Date(start).toLocaleTimeString()}`]);
+    part('.plot').dispatchEvent(new Event(end));
+    assert.deepEqual([shown()[0], shown()[1].split(' ')[0]], ['2', 'now']);
   }
-  assert.deepEqual(shown(), ['2', 'now']);
 });
 
 // Each row of a key has the colour of its curve, also if the key leaves out series, or has those with the greatest peaks. While the
@@ -178,29 +172,31 @@ test('the pointer shows the values of a time', async () => {
 test('each row of a key has the colour of its curve', async () => {
   const page = new Page();
   const refused = (reason, value) => `bayeux_requests_refused_total{status="400",reason="${reason}"} ${value}\n`;
-  const lags = Array.from({ length: 14 }, (_, shard) => `bayeux_shard_lag_entries{shard="${shard}"} ${shard}\n`).join('');
-  const text = (count) => `${metrics(1)}${refused('quiet', 0)}${refused('first', count)}${refused('second', 2 * count)}${lags}`;
+  const lags = (count) => Array.from({ length: count }, (_, shard) => `bayeux_shard_lag_entries{shard="${shard}"} ${shard}\n`).join('');
+  const text = (count) => `${metrics(1)}${refused('quiet', 0)}${refused('first', count)}${refused('second', 2 * count)}${lags(14)}`;
   await page.answer(text(0));
   await page.next(text(30));
-  const items = (title) => page.chart(title).querySelector('.key').children;
-  const rows = (title) => items(title).map(({ children: [mark, label] }) => [mark.style.background, label]);
+  const rows = (title) => page.chart(title).querySelector('.key').children.map(({ children: [mark, label] }) => [mark.style.background, label]);
   const curves = (title) => page.chart(title).querySelector('g').children.map(({ style }) => style.stroke);
-  const shards = Array.from({ length: 12 }, (_, at) => 13 - at);
-  const wanted = {
-    'Refusals': [[1, '400 first'], [2, '400 second']],
-    'Shard lag': shards.map((shard) => [shard, `shard ${shard}`]),
-  };
-  const values = { 'Refusals': [10, 20], 'Shard lag': shards };
   const seconds = page.timer.milliseconds / 1000;
+  // The place of each series among the curves, its name and its value.
+  const wanted = {
+    'Refusals': [[1, '400 first', 30 / seconds], [2, '400 second', 60 / seconds]],
+    'Shard lag': Array.from({ length: 12 }, (_, at) => [13 - at, `shard ${13 - at}`, 13 - at]),
+  };
   for (const isRead of [true, false]) {
     if (!isRead) await page.next(null);
     for (const [title, series] of Object.entries(wanted)) {
       const colours = curves(title);
       for (const it of colours) assert.match(it, /^light-dark\(hsl\(([\d.]+) 70% 40%\), hsl\(\1 80% 70%\)\)$/);
       assert.equal(new Set(colours).size, colours.length, `colours of ${title}`);
-      const value = (at) => (isRead ? values[title][at] * (title === 'Refusals' ? 3 / seconds : 1) : '–');
-      assert.deepEqual(rows(title), series.map(([index, name], at) => [colours[index], `${name}: ${value(at)}`]));
+      assert.deepEqual(rows(title), series.map(([index, name, value]) => [colours[index], `${name}: ${isRead ? value : '–'}`]));
     }
+  }
+  for (const [count, rest] of [[12, ''], [13, 'and 1 more']]) {
+    await page.next(metrics(1) + lags(count));
+    vm.runInContext('samples.splice(0, samples.length - 1); draw()', page.context);
+    assert.deepEqual([rows('Shard lag').length, page.chart('Shard lag').querySelector('.rest').textContent], [12, rest]);
   }
 });
 
@@ -242,15 +238,5 @@ test('all that the charts and the facts show', async () => {
   for (const [name, results] of Object.entries(RESULTS)) {
     const found = results.map(([it]) => vm.runInContext(`${name}(${it})`, page.context));
     assert.deepEqual(found, results.map(([, it]) => it), name);
-  }
-});
-
-// A key lists twelve series, and says how many more there are.
-test('a key lists twelve series and says how many more there are', async () => {
-  for (const [count, rest] of [[11, ''], [12, ''], [13, 'and 1 more']]) {
-    const page = new Page();
-    await page.answer(metrics(1) + Array.from({ length: count }, (_, shard) => `bayeux_shard_lag_entries{shard="${shard}"} 0\n`).join(''));
-    const chart = page.chart('Shard lag');
-    assert.deepEqual([chart.querySelector('.key').children.length, chart.querySelector('.rest').textContent], [Math.min(count, 12), rest]);
   }
 });

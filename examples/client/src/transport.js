@@ -43,8 +43,10 @@ async function askByFetch(url, messages, { timeout, headers, isLast, signal }) {
   } catch (cause) {
     if (signal?.aborted) throw signal.reason;
     if (cause.name === 'TimeoutError') throw noAnswer();
-    // In node, the inner cause says more than `fetch failed`.
-    throw new BayeuxError(response?.ok ? 'protocol' : 'network', cause.cause?.message || cause.message, { mayHaveArrived: true, cause });
+    // In node, the inner cause says more than `fetch failed`, also if there was no connection.
+    const { code, message } = cause.cause ?? {};
+    const mayHaveArrived = code !== 'ECONNREFUSED' && code !== 'ENOTFOUND';
+    throw new BayeuxError(response?.ok ? 'protocol' : 'network', message || code || cause.message, { mayHaveArrived, cause });
   }
   const { status } = response;
   const reason = response.headers.get('bayeux-error') ?? undefined;
