@@ -19,13 +19,13 @@
 #include <ucontext.h>
 #include <unistd.h>
 
-enum { LOCKS = 65, BLOCKS = 1 << 16, WAITS = 1 << 10, SITES = 1 << 13, MIN_BLOCK = 256, MAX_FRAME = 256, STACK_WORDS = 256, LOOP_BYTES = 10, LENGTHS = 512 };
+enum { LOCKS = 65, BLOCKS = 1 << 16, WAITS = 1 << 10, SITES = 1 << 13, MIN_BLOCK = 256, MAX_FRAME = 256, STACK_WORDS = 256, LENGTHS = 512 };
 /* How often admission is looked at in one turn without a pause, and for how many nanoseconds the thread that looks may be away. */
 enum { CLOSE_LOOKS = 1 << 16, MAX_GAP = 2000 };
 /* The lock that is held: none, that of admission, or that of a shard. */
 enum { NONE, ADMISSION, SHARD };
 /* What a site counts: samples of the instruction pointer, or calls. */
-enum { CODE = 1, SPIN, MEMORY, LIBRARY, OBSERVER, ALLOCATE, RESIZE, FREE };
+enum { CODE = 1, MEMORY, LIBRARY, OBSERVER, ALLOCATE, RESIZE, FREE };
 
 typedef _Atomic uint64_t number;
 
@@ -175,22 +175,6 @@ static uintptr_t caller_on(const uintptr_t *stack) {
     return 0;
 }
 
-/* Returns the lock at which one of the registers points. */
-static int lock_in(const greg_t *registers) {
-    int count = get(&shared->lock_count);
-    for (int at = 0; at <= REG_RCX; at++)
-        for (int lock = 0; lock < count; lock++)
-            if ((uint64_t)registers[at] == get(&shared->locks[lock])) return lock ? SHARD : ADMISSION;
-    return NONE;
-}
-
-/* Returns nonzero if the instruction `pause` is near `code`, as in a short loop that spins. */
-static int is_pause_near(const uint8_t *code) {
-    for (int at = -LOOP_BYTES; at < LOOP_BYTES; at++)
-        if (code[at] == 0xf3 && code[at + 1] == 0x90) return 1;
-    return 0;
-}
-
 static void sample(int signal, siginfo_t *about, void *context) {
     (void)signal, (void)about;
     const greg_t *registers = ((ucontext_t *)context)->uc_mcontext.gregs;
@@ -199,9 +183,7 @@ static void sample(int signal, siginfo_t *about, void *context) {
     if (!is_between(place, program)) {
         int what = is_between(place, observer) ? OBSERVER : memory_caller ? MEMORY : LIBRARY;
         count(held, what, !held ? 0 : memory_caller ? memory_caller : caller_on((uintptr_t *)registers[REG_RSP]));
-    } else if (is_pause_near((uint8_t *)place))
-        count(lock_in(registers), SPIN, place);
-    else
+    } else
         count(held, CODE, place);
 }
 

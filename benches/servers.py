@@ -1,5 +1,6 @@
 """Starts servers for the benchmarks on loopback: bayeuxd, or a bare HTTP server to compare it with."""
 import contextlib
+import glob
 import os
 import subprocess
 import sys
@@ -7,6 +8,8 @@ import sys
 from base import TOP, CheckFailed
 from daemon import SEED, Daemon
 
+# How long a load may run, in seconds.
+LIMIT = 120
 # A line of a script for bayeux_replay, with a handshake.
 HANDSHAKE_LINE = '0 P [{"channel":"/meta/handshake","version":"1.0","supportedConnectionTypes":["long-polling"]}]\n'
 
@@ -42,6 +45,30 @@ class Server(ServerProcess):
         first = ["taskset", "-c", processors] if processors else []
         args = [] if name == "bare" else ["4", "30000", "0", "10000", SEED]
         self.begin([*first, program, "127.0.0.1:0", *args, str(connections)], **streams)
+
+
+def run_load(program, address, args):
+    """Runs `program`, bayeux_load, and returns how it ended. `args`: its arguments after the server's address.
+
+    Raises `CheckFailed` if it takes longer than two minutes.
+    """
+    command = [program, "http://%s:%d/cometd" % address, *args.split()]
+    try:
+        return subprocess.run(command, capture_output=True, text=True, timeout=LIMIT, check=False)
+    except subprocess.TimeoutExpired as error:
+        raise CheckFailed(f"{args}: did not end within {LIMIT} seconds") from error
+
+
+def processor_time(process):
+    """Returns the processor time that a process and its running children took so far, in seconds. `process`: its id."""
+    ticks = 0
+    for path in glob.glob("/proc/[0-9]*/stat"):
+        with contextlib.suppress(OSError), open(path, encoding="utf-8", errors="replace") as text:
+            number, _, rest = text.read().partition(" (")
+            fields = rest.rpartition(")")[2].split()
+            if process in (int(number), int(fields[1])):
+                ticks += int(fields[11]) + int(fields[12])
+    return ticks / os.sysconf("SC_CLK_TCK")
 
 
 @contextlib.contextmanager
