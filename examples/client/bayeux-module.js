@@ -134,8 +134,9 @@ function sendLast(url, connectionType, messages, headers) {
 function argumentError(name, expected, given) {
   const isObject = typeof given === 'object' && given !== null;
   const object = Array.isArray(given) ? 'an array' : 'an object';
-  const text = typeof given === 'string' ? JSON.stringify(given) : typeof given === 'function' ? 'a function' : String(given);
-  return new TypeError(`${name}: expected ${expected}, got ${isObject ? object : text}`);
+  const texts = { string: JSON.stringify, function: () => 'a function', bigint: (it) => `${it}n` };
+  const text = isObject ? object : (texts[typeof given] ?? String)(given);
+  return new TypeError(`${name}: expected ${expected}, got ${text}`);
 }
 function addressOf(url) {
   const isGiven = url instanceof URL || (typeof url === 'string' && url !== '');
@@ -173,7 +174,7 @@ function checkOptions(options) {
   if (typeof options !== 'object' || options === null) throw argumentError('options', 'an object or a connection type', options);
   const names = Object.keys(OPTIONS);
   const unknown = Object.keys(options).find((it) => !names.includes(it));
-  if (unknown !== undefined) throw new TypeError(`options.${unknown}: unknown, expected ${names.slice(0, -1).join(', ')} or ${names.at(-1)}`);
+  if (unknown !== undefined) throw new TypeError(`options.${unknown}: unknown, expected one of ${names.join(', ')}`);
   for (const name of names) if (options[name] !== undefined) OPTIONS[name](`options.${name}`, options[name]);
 }
 function checkChannel(name, channel) {
@@ -193,7 +194,7 @@ function becomesNull(holder, name, value) {
 function messageOf(channel, data) {
   checkChannel('channel', channel);
   const expected = 'a value that JSON can express';
-  const lost = []; // what JSON would replace by null
+  const lost = [];
   let text;
   try {
     text = JSON.stringify(data, function check(name, value) {
@@ -216,9 +217,9 @@ const REFUSED_AS_A_WHOLE = [FORBIDDEN, 413];
 class Outbox {
   constructor(session) {
     this.session = session;
-    this.waiting = []; // publishes with a `message`, and others with an `action`
-    this.sending = null; // settles when nothing waits any more, if something does
-    this.isOpen = false; // whether a request is open
+    this.waiting = [];
+    this.sending = null;
+    this.isOpen = false;
   }
   inOrder(action, isFirst = false) {
     return this.add({ action, isFirst });
@@ -358,12 +359,12 @@ class Windows {
     this.session = session;
     this.id = `${Date.now()} ${Math.random()}`;
     this.isLeading = false;
-    this.leader = ''; // the id of the leader, as far as this window knows
-    this.wanted = new Map(); // if this window leads: the patterns of each other window, by its id
-    this.looking = new Set(); // if this window leads: the ids of the other windows that are visible
-    this.inherited = []; // the session's patterns at a takeover, until the others have sent theirs
-    this.asked = new Map(); // the requests to the leader that it has not answered, by their numbers
-    this.taken = new Set(); // the numbers of those that the leader has sent to the server
+    this.leader = '';
+    this.wanted = new Map();
+    this.looking = new Set();
+    this.inherited = [];
+    this.asked = new Map();
+    this.taken = new Set();
     this.count = 0;
     this.channel = new BroadcastChannel(name);
     this.channel.onmessage = ({ data }) => this.receive(JSON.parse(data));
@@ -512,35 +513,35 @@ class Session {
     this.reports = reports;
     this.connectionType = options.connectionType ?? transportFor(address);
     this.headers = options.headers ?? {};
-    this.lastHeaders = {}; // what `headers` was when it was last known, for a page that is left
+    this.lastHeaders = {};
     this.ext = options.ext ?? {};
     this.name = options.name;
-    this.timeout = options.timeout ?? 30000; // how long a connect may be held, unless the page is hidden
-    this.maxNetworkDelay = options.maxNetworkDelay ?? 10000; // how long a response may take in addition to its hold
-    this.minPause = options.minPause ?? 250; // the first pause after a failure, and the longest
+    this.timeout = options.timeout ?? 30000;
+    this.maxNetworkDelay = options.maxNetworkDelay ?? 10000;
+    this.minPause = options.minPause ?? 250;
     this.maxPause = options.maxPause ?? 10000;
-    this.queue = options.queue ?? 0; // how many publishes may wait for a connection
+    this.queue = options.queue ?? 0;
     this.isShared = (options.share ?? !(options.headers || options.ext)) && canShareSession();
     this.state = 'stopped';
     this.why = '';
-    this.error = undefined; // the failure that `why` describes
-    this.starts = 0; // how often it was started or stopped
-    this.opening = null; // the promise of `start` and its functions, until `stop`
-    this.watching = null; // removes the listeners from the page, until `stop`
-    this.endPause = () => {}; // ends the pause between two connects
-    this.connecting = null; // the AbortController of the connect that is open
-    this.hold = 0; // milliseconds for which the server may hold it
-    this.windows = null; // the windows that share the session, while it is started
+    this.error = undefined;
+    this.starts = 0;
+    this.opening = null;
+    this.watching = null;
+    this.endPause = () => {};
+    this.connecting = null;
+    this.hold = 0;
+    this.windows = null;
     this.clientId = null;
-    this.knownId = null; // the client id of the session that was last subscribed
-    this.lastEventTime = 0; // when its last event arrived, or it was subscribed; Date.now()
+    this.knownId = null;
+    this.lastEventTime = 0;
     this.advice = {};
     this.failures = 0;
-    this.mayPublish = true; // whether no publish was forbidden since the last successful one
-    this.hasBatches = false; // whether the server numbers its batches of events
+    this.mayPublish = true;
+    this.hasBatches = false;
     this.lastBatch = 0;
-    this.listeners = new Map(); // a list of `{ listener, fail }` for each pattern
-    this.subscribed = new Set(); // the session's patterns that the server has accepted
+    this.listeners = new Map();
+    this.subscribed = new Set();
     this.outbox = new Outbox(this);
   }
   start() {
@@ -937,7 +938,7 @@ class Session {
 function eventsOf(session, pattern, signal) {
   const arrived = [];
   const asked = [];
-  let end = null; // what `next` returns after the last event, or throws
+  let end = null;
   const finish = (failure) => {
     if (end !== null) return;
     end = { failure };

@@ -20,6 +20,7 @@ function body(name) {
     .replace(/^import [^;]*;\n/gm, '')
     .replace(/^export (?=(?:async )?(?:function|class|const|let) )/gm, '')
     .replace(/^ *(?:\/\/.*|\/\*\*[^]*?\*\/)\n/gm, '')
+    .replace(/ +\/\/ .*$/gm, '')
     .replace(/\n{2,}/g, '\n');
   if (/^(?:import|export)\b/m.test(text)) throw new Error(`src/${name}.js has an import or export of another form`);
   return text;

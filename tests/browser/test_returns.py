@@ -1,9 +1,7 @@
 """Users who leave a page and return with Back, and pages without a network, hidden, or frozen."""
 from __future__ import annotations
 
-import contextlib
 import time
-from typing import Callable, Iterator
 
 import pytest
 
@@ -11,7 +9,7 @@ from base import wait_until
 from browser import Window
 from pages import Client
 
-# After a failure, these clients do not try again before the user or the network returns. Pauses are in milliseconds.
+# After a failure, this client does not try again before the network returns. Pauses are in milliseconds.
 PATIENT = {"minPause": 1e6, "maxPause": 1e6}
 
 
@@ -20,45 +18,16 @@ def set_network(page: Window, is_offline: bool) -> None:
     page.command("Network.emulateNetworkConditions", offline=is_offline, latency=0, downloadThroughput=-1, uploadThroughput=-1)
 
 
-def set_frozen(page: Window, state: str) -> None:
-    page.command("Page.setWebLifecycleState", state=state)
-
-
-@contextlib.contextmanager
-def offline(page: Window) -> Iterator[None]:
-    """Takes the network from the page, and gives it back."""
-    set_network(page, True)
-    yield
-    set_network(page, False)
-
-
-@contextlib.contextmanager
-def hidden(page: Window) -> Iterator[None]:
-    """Hides the window, and shows it again."""
-    page.hide()
-    yield
-    page.show()
-
-
-@contextlib.contextmanager
-def frozen(page: Window) -> Iterator[None]:
-    """Hides and freezes the page, as a phone does while it is locked."""
-    with hidden(page):
-        set_frozen(page, "frozen")
-        yield
-        set_frozen(page, "active")
-
-
-@pytest.mark.parametrize("away", [offline, hidden], ids=["offline", "hidden"])
-def test_client_continues_at_once_when_the_network_or_the_user_returns(server, site, window, away: Callable):
+def test_client_continues_at_once_when_the_network_returns(server, site, window):
     page = window(site.address)
     client = Client(page, "/a", share=False, **PATIENT)
     client.wait_state("connected")
-    with away(page):
-        server.relay.cut()
-        client.wait_state("interrupted")
-        server.publish("/a", "while the client was away")
-        server.relay.target = server.daemon.address
+    set_network(page, True)
+    server.relay.cut()
+    client.wait_state("interrupted")
+    server.publish("/a", "while the client was away")
+    server.relay.target = server.daemon.address
+    set_network(page, False)
     client.wait_event("while the client was away")
     client.wait_state("connected")
     assert not client.gaps()
@@ -71,12 +40,16 @@ def test_frozen_page_reports_a_gap_since_before_the_first_lost_event(server, sit
     client.wait_state("connected")
     wait_until("a connect is held", lambda: site.waiting)
     held = set(site.waiting)
-    with frozen(page):
-        server.publish("/a", "arrives at the frozen page")
-        wait_until("the response is sent", lambda: held.isdisjoint(site.waiting))
-        lost = time.time() * 1000
-        server.restart()
-        server.publish("/a", "lost")
+    # As a phone does while it is locked.
+    page.hide()
+    page.command("Page.setWebLifecycleState", state="frozen")
+    server.publish("/a", "arrives at the frozen page")
+    wait_until("the response is sent", lambda: held.isdisjoint(site.waiting))
+    lost = time.time() * 1000
+    server.restart()
+    server.publish("/a", "lost")
+    page.command("Page.setWebLifecycleState", state="active")
+    page.show()
     wait_until("the client reports a gap", client.gaps)
     client.wait_state("connected")
     server.publish("/a", "after the return")

@@ -148,17 +148,14 @@ def test_backend_publishes(language: str, server, recipe, need, tmp_path: Path) 
     nginx = recipe(block(FOR_ALL), found)
     ben = nginx.handshake()
     nginx.send(channel="/meta/subscribe", subscription="/news/*", clientId=ben)
-    texts = [text for it, text in blocks(title) if it == language]
-    assert texts
-    for text in texts:
-        program = adapt(text.removeprefix("<?php\n"), tmp_path, {"127.0.0.1:8087": text_of(found.address)})
-        if language in FROM_FILES:
-            path = tmp_path / f"publish.{language}"
-            path.write_text(program, encoding="utf-8")
-            program = str(path)
-        result = subprocess.run([*RUNS[language], program], capture_output=True, text=True, check=False)
-        assert result.stdout.strip() == block(title, "text").strip(), result.stderr
-    assert nginx.send(**CONNECT, clientId=ben)[:-1] == [{"channel": "/news/today", "data": "Hello"}] * len(texts)
+    program = adapt(block(title, language).removeprefix("<?php\n"), tmp_path, {"127.0.0.1:8087": text_of(found.address)})
+    if language in FROM_FILES:
+        path = tmp_path / f"publish.{language}"
+        path.write_text(program, encoding="utf-8")
+        program = str(path)
+    result = subprocess.run([*RUNS[language], program], capture_output=True, text=True, check=False)
+    assert result.stdout.strip() == block(title, "text").strip(), result.stderr
+    assert nginx.send(**CONNECT, clientId=ben)[:-1] == [{"channel": "/news/today", "data": "Hello"}]
 
 
 def test_curl_lines_of_the_readme_get_an_event(server, need) -> None:

@@ -190,6 +190,7 @@ export class Place {
     this.open = new Set(); // the timers that have not ended
     this.limits = []; // milliseconds and an end of each time limit of a request
     this.hold = ADVICE.timeout; // milliseconds for which the server may hold a connect of this place
+    this.delay = NETWORK_TIMEOUT; // the option `maxNetworkDelay` of its clients
     this.lengths = []; // pairs: milliseconds of each timer of a request, and those that the documents name
     this.beacons = [];
     this.errors = []; // the messages of the errors that the functions of the page have thrown
@@ -225,9 +226,9 @@ export class Place {
     const timer = { id: null };
     const end = () => this.open.delete(timer) && !this.isOver && go();
     this.open.add(timer);
-    if (milliseconds >= NETWORK_TIMEOUT) {
+    if (milliseconds >= this.delay) {
       this.limits.push([milliseconds, end]);
-      this.lengths.push([milliseconds, NETWORK_TIMEOUT]);
+      this.lengths.push([milliseconds, this.delay]);
     } else if (this.pauses.push(milliseconds) < this.endless) timer.id = setTimeout(end, 0);
     return timer;
   }
@@ -249,7 +250,7 @@ export class Place {
   /** Returns the time limit of a request with `messages`, in milliseconds (docs/PROTOCOL.md, "No answer"). */
   limitOf(messages) {
     const connect = messages.find(({ channel }) => channel === '/meta/connect');
-    return NETWORK_TIMEOUT + (connect ? connect.advice?.timeout ?? this.hold : 0);
+    return this.delay + (connect ? connect.advice?.timeout ?? this.hold : 0);
   }
 
   pageGlobals(address) {
@@ -412,14 +413,18 @@ export const unsubscribe = (...of) => ({ ...subscribe(...of), channel: '/meta/un
 
 /** A test with a server of its own, which follows a script. It fails too if the server gets a request that is too long. */
 export function scenario(name, check) {
-  test(name, { timeout: 2 * PATIENCE }, async () => {
+  test(name, { timeout: 2 * PATIENCE }, async ({ signal }) => {
     const server = await new Server().listen();
+    const end = () => {
+      server.close();
+      places.splice(0).forEach((it) => (it.isOver = true));
+    };
+    signal.addEventListener('abort', end);
     try {
       await Promise.race([check(server), server.failure]);
       for (const { lengths } of places) assert.deepEqual(lengths.map(([found]) => found), lengths.map(([, wanted]) => wanted), 'the time limits');
     } finally {
-      server.close();
-      places.splice(0).forEach((it) => (it.isOver = true));
+      end();
     }
   });
 }

@@ -148,10 +148,6 @@ scenario('each window gets the answers to its own requests', async (server) => {
     const outcomes = [first.publish('/x', 1), second.publish('/x', 2)].map(outcomeOf);
     assert.deepEqual(await Promise.all(outcomes), [['400::Invalid channel', false, undefined], 'done']);
   }
-  // Data of each kind, also of a window that does not lead.
-  const values = [null, false, 0, -0.5, 1e300, 1e-300, '', 'ü\u2028', [], [null], {}, { a: { b: [1] } }];
-  await Promise.all(values.map((value) => two.publish('/values', value)));
-  assert.deepEqual(server.messages('/values').map(({ data }) => data), values);
   // The session is gone when a window publishes: its leader sends this once more, and reports a second failure.
   for (const [times, outcome, session] of [[1, 'done', 'session 2'], [2, ['402::Unknown client', false, undefined], 'session 4']]) {
     for (let time = 0; time < times; time++) server.next('/x', unknown('/x'));
@@ -215,11 +211,6 @@ scenario('a window whose leader has no session, or does not hear it', async (ser
   assert.deepEqual([server.patterns(), one.log.slice(2), server.messages('/a')], [['/a', '/two'], [['/a', 1], ['/a', 2]], []]);
   const lost = Array(2).fill('interrupted no answer in time');
   assert.deepEqual(two.log.filter((it) => it !== 'connected'), ['connecting', lost[0], ['/a', 1], lost[1], ['/a', 2]]);
-  // A pattern that it has before it joins, and that the server rejects.
-  server.next('/meta/subscribe', rejection('/meta/subscribe', '400::Invalid pattern'));
-  const three = origin.open('/a', '/a/**/b');
-  await three.started;
-  assert.deepEqual([three.client.log, [...three.client.listeners.keys()]], [['connecting', 'connected', 'connected /a/**/b: 400::Invalid pattern'], ['/a']]);
   // A subscription that fails for another reason is tried again.
   server.refuse('/meta/subscribe', 503);
   const four = origin.open('/a', '/four');
@@ -233,44 +224,33 @@ scenario('a window whose leader has no session, or does not hear it', async (ser
 });
 
 scenario('many windows, which leave one after another', async (server) => {
-  const [, windows, ...clients] = await opened(server, ...Array.from({ length: 10 }, (_, number) => ['/a', `/own/${number}`]));
-  assert.deepEqual(server.patterns().sort(), ['/a', ...windows.map((_, number) => `/own/${number}`)]);
+  const [, windows, ...clients] = await opened(server, ...Array.from({ length: 6 }, (_, number) => ['/a', `/own/${number}`]));
   // A pattern is unsubscribed once no window has it.
   server.requests.splice(0);
   await clients[0].unsubscribe('/a');
-  await clients[5].unsubscribe('/a');
-  await clients[5].unsubscribe('/own/5', clients[5].listener);
-  await clients[7].subscribe('/own/5', clients[7].listener);
+  await clients[2].unsubscribe('/own/2', clients[2].listener);
+  await clients[3].subscribe('/own/2', clients[3].listener);
   const changes = server.requests.flatMap(([, , , messages]) => messages).filter(({ channel }) => /subscribe$/.test(channel));
-  assert.deepEqual(changes, [unsubscribe('/own/5'), subscribe('/own/5')]);
-  await server.give(...windows.map((_, number) => [`/own/${number}`, number]), ['/a', 'all']);
-  for (const [number, { log }] of clients.entries()) {
-    const own = number === 5 ? [] : [`/own/${number}`, ...(number === 7 ? ['/own/5'] : [])];
-    const expected = [...([0, 5].includes(number) ? [] : ['/a']), ...own].sort();
-    await until('the events come', () => log.length >= 2 + expected.length);
-    assert.deepEqual(log.splice(0).slice(2).map(([channel]) => channel).sort(), expected, `window ${number}`);
-  }
-  // Each takes over in turn, continues after the last batch, and ends the pauses of the one that leads.
-  for (const [number, window] of windows.entries()) {
-    if (number === 0) continue;
+  assert.deepEqual(changes, [unsubscribe('/own/2'), subscribe('/own/2')]);
+  clients.forEach(({ log }) => log.splice(0));
+  // Each takes over in turn, continues after the last batch, and ends its pause for another window.
+  for (let number = 1; number < 6; number++) {
     await server.renewed(() => clients[number - 1].stop());
     assert.equal(server.messages('/meta/connect').at(-1).ext.ack, server.batch);
     const rest = clients.slice(number);
     server.emit(['/a', number]);
-    await until('the event comes', () => rest.every((it) => it === clients[5] || it.log.at(-1)?.[1] === number));
-    for (const { log } of rest) assert.deepEqual(log.splice(0), log === clients[5].log ? [] : [['/a', number]]);
-    if (number > 7) continue;
+    await until('the event comes', () => rest.every(({ log }) => log.length > 0));
     await server.holds();
-    window.endless = window.pauses.length + 1;
+    windows[number].endless = windows[number].pauses.length + 1;
     server.refuse('/meta/connect', 502);
     server.answerHeld([]);
-    await until('it pauses, and the last window knows', () => window.pauses.length === window.endless && clients[9].state === 'interrupted');
-    windows[9].dispatch('online');
+    await until('it pauses, and the last window knows', () => windows[number].pauses.length === windows[number].endless && clients[5].state === 'interrupted');
+    windows[5].dispatch('online');
     await until('all are connected', () => rest.every(({ state }) => state === 'connected'));
-    for (const { log } of rest) assert.deepEqual([...new Set(log.splice(0))], ['interrupted HTTP status 502', 'connected']);
+    for (const { log } of rest) assert.deepEqual(log.splice(0).filter((it, at, all) => it !== all[at - 1]), [['/a', number], 'interrupted HTTP status 502', 'connected']);
   }
-  clients[9].stop();
-  assert.deepEqual([server.sessions, windows.map((it) => lastOf(it)?.length)], [1, [...Array(9), 1]]);
+  clients[5].stop();
+  assert.deepEqual([server.sessions, windows.map((it) => lastOf(it)?.length)], [1, [...Array(5), 1]]);
 });
 
 scenario('windows that stop and start again', async (server) => {

@@ -5,8 +5,9 @@ import { IS_PAGE, TRANSPORTS } from './transport.js';
 export function argumentError(name, expected, given) {
   const isObject = typeof given === 'object' && given !== null;
   const object = Array.isArray(given) ? 'an array' : 'an object';
-  const text = typeof given === 'string' ? JSON.stringify(given) : typeof given === 'function' ? 'a function' : String(given);
-  return new TypeError(`${name}: expected ${expected}, got ${isObject ? object : text}`);
+  const texts = { string: JSON.stringify, function: () => 'a function', bigint: (it) => `${it}n` };
+  const text = isObject ? object : (texts[typeof given] ?? String)(given);
+  return new TypeError(`${name}: expected ${expected}, got ${text}`);
 }
 
 /** Returns `url` as an absolute address. */
@@ -54,7 +55,7 @@ export function checkOptions(options) {
   if (typeof options !== 'object' || options === null) throw argumentError('options', 'an object or a connection type', options);
   const names = Object.keys(OPTIONS);
   const unknown = Object.keys(options).find((it) => !names.includes(it));
-  if (unknown !== undefined) throw new TypeError(`options.${unknown}: unknown, expected ${names.slice(0, -1).join(', ')} or ${names.at(-1)}`);
+  if (unknown !== undefined) throw new TypeError(`options.${unknown}: unknown, expected one of ${names.join(', ')}`);
   for (const name of names) if (options[name] !== undefined) OPTIONS[name](`options.${name}`, options[name]);
 }
 

@@ -21,19 +21,6 @@ const failureOf = (promise) => promise.then(() => assert.fail('it succeeded'), (
 const outcomesOf = (promises) => Promise.all(promises.map((it) => it.then(() => 'done', ({ code, reply }) => reply ?? code)));
 const dataSent = (channel) => server.requests.map(([, , , messages]) => messages.filter((it) => it.channel === channel).map(({ data }) => data)).filter((it) => it.length > 0);
 
-// Records the time limits of requests instead of waiting for them. `end` of each ends it now.
-function recordLimits() {
-  const { timeout } = AbortSignal;
-  const limits = [];
-  AbortSignal.timeout = (milliseconds) => {
-    const controller = new AbortController();
-    limits.push({ milliseconds, end: () => controller.abort(new DOMException('too late', 'TimeoutError')) });
-    return controller.signal;
-  };
-  limits.restore = () => (AbortSignal.timeout = timeout);
-  return limits;
-}
-
 describe('events', () => {
   it('tells each listener of states, gaps and errors, after the function of the client', async () => {
     open();
@@ -122,18 +109,6 @@ describe('errors', () => {
       assert.deepEqual(found, [...expected, ...rest].slice(0, 6));
     }
     assert.deepEqual([client.state, client.clientId], ['connected', 'session 1']);
-    // No response, and one that stops in its middle. Until the next answer, the client is interrupted.
-    const limits = recordLimits();
-    for (const begin of [() => {}, (response) => response.write('[{"channel":')]) {
-      server.next('/a', (_, response) => {
-        begin(response);
-        setTimeout(limits.at(-1).end, 20);
-      });
-      assert.deepEqual([await failed(), client.state], [['timeout', 'no answer in time', true, ...rest], 'interrupted']);
-      await client.publish('/a', 0);
-      assert.equal(client.state, 'connected');
-    }
-    limits.restore();
     server.next('/meta/subscribe', rejection('/meta/subscribe', '400::Invalid pattern'));
     const { code, pattern, reply } = await failureOf(client.subscribe('/a/**/b', () => {}));
     assert.deepEqual([code, pattern, reply], ['rejected', '/a/**/b', 400]);
@@ -322,14 +297,5 @@ describe('options', () => {
     await client.stop();
     const found = server.headers.slice(before).map((it) => [it['x-token'], it['x-other'], it['content-type']]);
     assert.deepEqual(found.filter(([it]) => /d$/.test(it)), [['second', 'ok', 'application/json'], ['third', 'ok', 'application/json']]);
-  });
-
-  it('maxNetworkDelay limits how long a response may take, in addition to the time that it is held', async () => {
-    const limits = recordLimits();
-    await start({ maxNetworkDelay: 1234 });
-    await server.holds();
-    await client.publish('/a', 1);
-    assert.deepEqual(limits.map(({ milliseconds }) => milliseconds), [1234, 1234, 31234, 1234]);
-    limits.restore();
   });
 });

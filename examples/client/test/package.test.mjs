@@ -9,14 +9,16 @@ import { tmpdir } from 'node:os';
 import { join } from 'node:path';
 import { after, before, describe, it } from 'node:test';
 import { fileURLToPath } from 'node:url';
+import { isDeepStrictEqual } from 'node:util';
 import vm from 'node:vm';
 import { gzipSync } from 'node:zlib';
 import { BayeuxClient } from '../bayeux-module.js';
 
 const FOLDER = fileURLToPath(new URL('..', import.meta.url));
+const CLIENT = readFileSync(join(FOLDER, '../../docs/CLIENT.md'), 'utf8');
 const has = (program) => (process.env.PATH ?? '').split(':').some((folder) => existsSync(join(folder, program)));
 // The largest script for pages, compressed.
-const MOST_BYTES = 12 * 1024;
+const MOST_BYTES = 12000;
 
 let project;
 let installed; // the folder of the package
@@ -93,11 +95,22 @@ describe('the package', () => {
     assert.ok(length < MOST_BYTES, `${length} bytes`);
   });
 
-  it('has no public members but the documented ones', () => {
+  it('has the members and options that the documents and the types have, and no others', () => {
     const client = new BayeuxClient('http://127.0.0.1/cometd');
-    const names = [...Object.getOwnPropertyNames(client), ...Object.getOwnPropertyNames(BayeuxClient.prototype)].sort();
-    const documented = 'addEventListener clientId connectionType constructor events headers ongap onleave onstate publish removeEventListener start state stop subscribe unsubscribe url';
-    assert.deepEqual(names, documented.split(' '));
+    const members = [...Object.getOwnPropertyNames(client), ...Object.getOwnPropertyNames(BayeuxClient.prototype)].sort();
+    const types = read('bayeux-module.d.ts');
+    const bodyOf = (name) => new RegExp(`^export (?:class|interface) ${name}\\b.*{\n([^]*?)^}`, 'm').exec(types)[1];
+    const namesOf = (text, pattern) => [...new Set([...text.matchAll(pattern)].map(([, name]) => name))].sort();
+    assert.deepEqual(namesOf(bodyOf('BayeuxClient'), /^ {2}(?:readonly )?(\w+)\??[(:<]/gm), members);
+    // The first cells of the table.
+    const cells = CLIENT.match(/(?<=^\| )`[^|]*(?= \|)/gm).join(' ').replace('new BayeuxClient', 'constructor');
+    assert.deepEqual(namesOf(cells, /`(\w+)/g), members);
+    assert.throws(() => new BayeuxClient('http://127.0.0.1/', { no: 1 }), ({ message }) => {
+      const options = message.split('expected one of ')[1].split(', ').sort();
+      assert.deepEqual(namesOf(bodyOf('Options'), /^ {2}(\w+)\?:/gm), options);
+      const list = CLIENT.slice(CLIENT.indexOf('### Options')).match(/(?<=^- )[^:]*/gm).join(' ');
+      return isDeepStrictEqual(namesOf(list, /`(\w+)`/g).filter((it) => options.includes(it)), options);
+    });
   });
 
   it('has types that a strict compiler takes, for modules and for CommonJS', { skip: !has('tsc') && NO_COMPILER }, () => {
@@ -125,12 +138,24 @@ describe('the package', () => {
     for (const name of ['uses.mts', 'uses.cts']) writeFileSync(join(project, name), uses);
     writeFileSync(join(project, 'page.ts'), `/// <reference types="gadzilk-client/bayeux.js" />\nconst client: BayeuxClient = new BayeuxClient('/cometd');\nclient.publish('/a', 1);\n`);
     compile('--strict', 'uses.mts', 'uses.cts', 'page.ts');
+    // Node's types have few of the names of the DOM.
+    writeFileSync(join(project, 'node.d.ts'), `
+      declare class Event { readonly type: string }
+      type Listener = (event: Event) => void;
+      declare class EventTarget {
+        addEventListener(type: string, listener: Listener, options?: { once?: boolean }): void;
+        removeEventListener(type: string, listener: Listener, options?: { capture?: boolean }): void;
+      }
+      declare class URL {}
+      interface AbortSignal {}`);
+    writeFileSync(join(project, 'program.mts'), "import { BayeuxClient } from 'gadzilk-client';\nexport const it: string = new BayeuxClient('http://127.0.0.1/').url;\n");
+    compile('--strict', '--lib', 'es2022', 'node.d.ts', 'program.mts');
   });
 
   it('has what the examples of the documents use, which a compiler takes', { skip: !has('tsc') && NO_COMPILER }, () => {
-    const pages = ['../../docs/CLIENT.md', 'README.md'].map((it) => readFileSync(join(FOLDER, it), 'utf8')).join('\n');
+    const pages = `${CLIENT}\n${readFileSync(join(FOLDER, 'README.md'), 'utf8')}`;
     const examples = [...pages.matchAll(/^```(js|jsx|ts|vue)\n([^]*?)^```$/gm)].map(([, kind, text], at) => {
-      const script = /(?<=^<script setup>)[^]*(?=^<\/script>)/m.exec(text)?.[0] ?? text.replace('./client/bayeux-module.js', 'gadzilk-client');
+      const script = /(?<=^<script setup>)[^]*(?=^<\/script>)/m.exec(text)?.[0] ?? text;
       const own = /\bclient\b/.test(script) && !/(const|import) .*\bclient\b.* (=|from) /.test(script) ? "const client = new BayeuxClient('/cometd');\n" : '';
       const name = `example-${at}.${{ vue: 'js', ts: 'mts' }[kind] ?? kind}`;
       writeFileSync(join(project, name), `${own}${script}\nexport {};\n`);
@@ -163,10 +188,8 @@ describe('with a server', { skip: !process.env.BAYEUXD && 'BAYEUXD names no serv
   after(() => daemon.kill());
 
   it('publishes the message of the example in docs/CLIENT.md, imported and required, and many others', async () => {
-    const examples = readFileSync(join(FOLDER, '../../docs/CLIENT.md'), 'utf8').match(/(?<=^```js\n)[^]*?(?=^```$)/gm);
-    const [text, ...others] = examples.filter((it) => it.includes("from 'gadzilk-client'"));
+    const text = CLIENT.match(/(?<=^```js\n)[^]*?(?=^```$)/gm).find((it) => it.includes("from 'gadzilk-client'"));
     const [own, ...rest] = text.replace('http://127.0.0.1:8087/cometd', address).split('\n');
-    assert.deepEqual([others, own], [[], "import { BayeuxClient } from 'gadzilk-client';"]);
     writeFileSync(join(project, 'example.mjs'), [own, ...rest].join('\n'));
     writeFileSync(join(project, 'example.cjs'), `const { BayeuxClient } = require('gadzilk-client');\n(async () => {${rest.join('\n')}})();`);
     const reader = new BayeuxClient(address);
@@ -174,7 +197,7 @@ describe('with a server', { skip: !process.env.BAYEUXD && 'BAYEUXD names no serv
     await reader.start();
     // Each opens the second session of a server that takes two.
     for (const name of ['example.mjs', 'example.cjs']) {
-      assert.equal(run('node', [name]), '');
+      assert.equal(run('node', [name]), 'connecting \nconnected \nstopped \n');
       assert.deepEqual((await events.next()).value, { channel: '/chat/hall', data: { text: 'Hello' } });
     }
     // The events of many publishes arrive once and in order.

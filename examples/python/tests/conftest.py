@@ -39,9 +39,3 @@ def start() -> Iterator[Callable[..., Daemon]]:
             return it
 
         yield start
-
-
-@pytest.fixture
-def daemon(start: Callable[..., Daemon]) -> Daemon:
-    """A daemon whose sessions end two seconds after their last request."""
-    return start("--max-interval", "2s")

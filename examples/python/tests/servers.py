@@ -6,6 +6,7 @@ import json
 import socket
 import subprocess
 import threading
+import time
 import urllib.request
 from collections.abc import Callable
 from typing import Any
@@ -46,6 +47,17 @@ class Script(http.server.ThreadingHTTPServer):
     def next(self, channel: str, answer: Any) -> None:
         """Answers the next message on `channel`: with a reply, a status, bytes as the body, None to cut the connection, or `...` to break off."""
         self.answers.append((channel, answer))
+
+    def hold(self, channel: str) -> threading.Event:
+        """Answers the next message on `channel` once the event is set."""
+        done = threading.Event()
+        self.next(channel, lambda: done.wait(PATIENCE) and {} or {})
+        return done
+
+    def wait(self, channel: str) -> None:
+        """Waits for a message on `channel`."""
+        while not self.messages(channel):
+            time.sleep(0.001)
 
     def messages(self, channel: str) -> list[dict[str, Any]]:
         return [it for messages in self.requests for it in messages if it["channel"] == channel]

@@ -3,9 +3,10 @@ from __future__ import annotations
 
 import asyncio
 import datetime
-import http.client
+import io
 import itertools
 import logging
+import re
 import threading
 from typing import Any
 
@@ -13,6 +14,7 @@ import pytest
 from servers import PATIENCE, Script, rejected, unknown
 
 from gadzilk_client import Client, Event, Forbidden, HTTPStatus, InvalidResponse, Rejected, Unreachable
+from gadzilk_client.__main__ import main
 from gadzilk_client.aio import AsyncClient
 
 
@@ -79,39 +81,32 @@ class TestRequests:
 
 
 class TestPublish:
-    @pytest.mark.parametrize("status", [400, 401, 403, 404, 413, 429, 501, 502, 503, 504])
-    def test_a_status(self, script: Script, client: Client, status: int) -> None:
+    @pytest.mark.parametrize(
+        ("answer", "kind", "may_have_arrived"),
+        [
+            *((it, HTTPStatus, False) for it in (400, 401, 404, 413, 429, 501)),
+            *((it, HTTPStatus, True) for it in (502, 503, 504)),
+            (403, Forbidden, False),
+            *((it, InvalidResponse, True) for it in (b"<html>", b"{}", b"[]", b"[1]", b'[{"channel":"/b"}]')),
+            *((it, Unreachable, True) for it in (None, ...)),
+        ],
+    )
+    def test_a_failure_is_not_tried_again(self, script: Script, client: Client, answer: Any, kind: type, may_have_arrived: bool) -> None:
         client.publish("/b", 0)
-        script.next("/b", status)
-        with pytest.raises(HTTPStatus) as caught:
+        script.next("/b", answer)
+        with pytest.raises(OSError) as caught:
             client.publish("/b", 1)
-        assert (caught.value.status, caught.value.may_have_arrived) == (status, status in (502, 503, 504))
-        assert isinstance(caught.value, Forbidden) == (status == 403)
-        assert isinstance(caught.value, OSError)
-
-    @pytest.mark.parametrize("body", [b"<html>", b"{}", b"[]", b"[1]", b'[{"channel":"/b"}]'])
-    def test_a_response_that_is_not_the_servers(self, script: Script, client: Client, body: bytes) -> None:
-        client.publish("/b", 0)
-        script.next("/b", body)
-        with pytest.raises(InvalidResponse):
-            client.publish("/b", 1)
-
-    def test_a_cut_connection_is_not_tried_again(self, script: Script, client: Client) -> None:
-        client.publish("/b", 0)
-        script.next("/b", None)
-        with pytest.raises(Unreachable) as caught:
-            client.publish("/b", 1)
-        assert caught.value.may_have_arrived
+        assert (type(caught.value), caught.value.may_have_arrived) == (kind, may_have_arrived)  # type: ignore[attr-defined]
+        assert getattr(caught.value, "status", answer) == answer
         assert script.data("/b") == [[0], [1]]
 
     def test_no_server_and_no_answer(self, script: Script) -> None:
         with pytest.raises(Unreachable) as caught:
             Client("http://127.0.0.1:1/cometd").publish("/b", 1)
         assert not caught.value.may_have_arrived
-        done = threading.Event()
         with Client(script.url, timeout=0.2) as client:
             client.publish("/b", 0)
-            script.next("/b", lambda: done.wait(PATIENCE) and {} or {})
+            done = script.hold("/b")
             with pytest.raises(Unreachable, match="no answer in time") as caught:
                 client.publish("/b", 1)
             done.set()
@@ -179,16 +174,12 @@ class TestListen:
     def test_each_event_once_and_acknowledged(self, script: Script, client: Client) -> None:
         script.batches = [events(1), [], events(2, 3), events(4)]
         listening = client.listen("/a")
-        assert next(listening).data == 1
+        assert next(listening) == Event("/a", 1) == ("/a", 1)
         # The server sends the events of a response that is lost, or breaks off, again.
         for answer in (None, ...):
             script.next("/meta/connect", answer)
         assert [next(listening).data for _ in range(3)] == [2, 3, 4]
         assert [it["ext"]["ack"] for it in script.messages("/meta/connect")] == [0, 1, 1, 1, 1, 2]
-
-    def test_events_have_a_channel_and_data(self, script: Script, client: Client) -> None:
-        script.batches = [events({"x": 1})]
-        assert next(client.listen("/*")) == Event("/a", {"x": 1}) == ("/a", {"x": 1})
 
     @pytest.mark.parametrize("answer", [None, ..., 500, 503, 404, b"<html>", rejected("", "503::Too many sessions", reconnect="handshake")])
     @pytest.mark.parametrize("channel", ["/meta/handshake", "/meta/subscribe", "/meta/connect"])
@@ -280,27 +271,23 @@ class TestListen:
         assert found == [PATIENCE, PATIENCE + 30]
 
     def test_close_from_another_thread_ends_it(self, script: Script, client: Client) -> None:
-        hold = threading.Event()
-        script.next("/meta/connect", lambda: hold.wait(PATIENCE) and {} or {})
+        hold = script.hold("/meta/connect")
         found: list[Any] = []
         thread = threading.Thread(target=lambda: found.append(list(client.listen("/a"))))
         thread.start()
-        while not script.messages("/meta/connect"):
-            pass
+        script.wait("/meta/connect")
         client.close()
         thread.join(PATIENCE)
         hold.set()
         assert found == [[]]
 
     def test_a_publish_that_finds_the_session_gone_ends_the_connect(self, script: Script) -> None:
-        hold, gaps = threading.Event(), threading.Event()
+        hold, gaps = script.hold("/meta/connect"), threading.Event()
         found: list[Any] = []
         with Client(script.url, timeout=PATIENCE, min_pause=0.001, on_gap=lambda _: gaps.set()) as client:
-            script.next("/meta/connect", lambda: hold.wait(PATIENCE) and {} or {})
             thread = threading.Thread(target=lambda: found.append(next(client.listen("/a")).data))
             thread.start()
-            while not script.messages("/meta/connect"):
-                pass
+            script.wait("/meta/connect")
             script.next("/b", unknown("/b"))
             script.batches = [events(1)]
             client.publish("/b", 0)
@@ -345,9 +332,41 @@ def test_asyncio(script: Script) -> None:
     assert asyncio.run(run()) == [1, 2]
 
 
-def test_importing_reads_and_prints_nothing(monkeypatch: pytest.MonkeyPatch, script: Script) -> None:
+def test_the_address_of_the_environment(monkeypatch: pytest.MonkeyPatch, script: Script) -> None:
     monkeypatch.setenv("BAYEUX_URL", script.url)
     with Client() as client:
         client.publish("/b", 1)
     assert script.data("/b") == [[1]]
-    assert http.client.HTTPConnection.debuglevel == 0
+
+
+class TestCommand:
+    """The command `bayeux`."""
+
+    def test_events_and_standard_input(self, script: Script, capsys: pytest.CaptureFixture[str], monkeypatch: pytest.MonkeyPatch) -> None:
+        script.batches = [events(1), events({"text": "ü"}, 3)]
+        assert main(["--url", script.url, "--header", "X-Token: abc", "subscribe", "--count", "2", "/a"]) == 0
+        assert capsys.readouterr() == ('/a 1\n/a {"text": "ü"}\n', "")
+        assert {it["X-Token"] for it in script.heads} == {"abc"}
+        monkeypatch.setattr("sys.stdin", io.StringIO('1\n{"text": "ü"}\n'))
+        assert main(["--url", script.url, "publish", "/b", "-"]) == 0
+        assert script.data("/b") == [[1], [{"text": "ü"}]]
+        script.batches = [events(4, 5)]
+        script.next("/meta/connect", {**script.reply({"channel": "/meta/connect"})[-1], "advice": {"reconnect": "none"}})
+        assert main(["--url", script.url, "watch", "/a"]) == 1
+        assert capsys.readouterr().err == "bayeux: the session was ended\n"
+
+    def test_errors(self, script: Script, capsys: pytest.CaptureFixture[str]) -> None:
+        def run(*args: str, url: str = script.url) -> tuple[int, str]:
+            return main(["--url", url, *args]), capsys.readouterr().err
+
+        script.next("/meta/subscribe", rejected("/meta/subscribe", "400::Invalid pattern"))
+        assert run("subscribe", "/a/*/b") == (1, "bayeux: /a/*/b: 400::Invalid pattern\n")
+        for text, quoted in (("Hello", """'"Hello"'"""), ("", """'""'"""), ("NaN", """'"NaN"'"""), ('{"n":}', r"""'"{\"n\":}"'""")):
+            assert run("publish", "/a", text) == (1, f"bayeux: expected JSON, got {text}; to publish it as text, write {quoted}\n")
+        nobody = "http://127.0.0.1:1/cometd"
+        status, text = run("publish", "/a", "1", url=nobody)
+        assert (status, bool(re.fullmatch(f"bayeux: {nobody}: .*refused.*; set BAYEUX_URL to use another server\n", text))) == (1, True)
+        for args in ((), ("listen",), ("publish", "/a"), ("--unknown", "/a"), ("--header", "x", "watch", "/a")):
+            with pytest.raises(SystemExit, match="2"):
+                run(*args)
+            assert "usage: " in capsys.readouterr().err

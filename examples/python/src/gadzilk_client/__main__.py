@@ -1,4 +1,4 @@
-"""The command `bayeux`: publishes, prints events, and shows the newest event of each channel."""
+"""The command `bayeux`."""
 from __future__ import annotations
 
 import argparse
@@ -59,22 +59,25 @@ def watch(client: Client, args: argparse.Namespace) -> None:
 
 def parse_args(args: Sequence[str] | None) -> argparse.Namespace:
     epilog = f"BAYEUX_URL: the server's address, by default {DEFAULT_URL}. BAYEUX_NAME: the session's name."
-    parser = argparse.ArgumentParser(prog="bayeux", description=__doc__, epilog=epilog)
+    parser = argparse.ArgumentParser(prog="bayeux", description="Publish, and print events.", epilog=epilog)
     parser.add_argument("--version", action="version", version=__version__)
     parser.add_argument("--url", default=os.environ.get("BAYEUX_URL", DEFAULT_URL), help="the server's address, which may have a user and a password")
     parser.add_argument("--name", default=os.environ.get("BAYEUX_NAME") or None, help="the session's name, to find it in a record of the server")
     parser.add_argument("--header", action="append", default=[], type=parse_header, metavar="NAME: VALUE", help="a header field of each request")
     commands = parser.add_subparsers(required=True, metavar="COMMAND")
-    for names, function in ((("subscribe", "listen"), subscribe), (("watch",), watch)):
-        command = commands.add_parser(names[0], aliases=names[1:], help=function.__doc__, description=function.__doc__)
-        command.add_argument("pattern", nargs="+", metavar="PATTERN", help="such as /chat/* or /chat/**")
+
+    def add(name: str, text: str, function: object, *aliases: str) -> argparse.ArgumentParser:
+        command = commands.add_parser(name, aliases=aliases, help=text, description=f"{text[0].upper()}{text[1:]}.")
         command.set_defaults(run=function)
-        if function is subscribe:
-            command.add_argument("--count", type=int, default=None, help="end after so many events")
-    command = commands.add_parser("publish", help=publish.__doc__, description=publish.__doc__)
-    command.add_argument("channel", metavar="CHANNEL")
-    command.add_argument("data", metavar="JSON", help="a value, or - for a value in each line of standard input")
-    command.set_defaults(run=publish)
+        return command
+
+    subscribing = add("subscribe", "print each event in a line", subscribe, "listen")
+    subscribing.add_argument("--count", type=int, help="end after COUNT events")
+    for command in (subscribing, add("watch", "show the newest event of each channel on a terminal", watch)):
+        command.add_argument("pattern", nargs="+", metavar="PATTERN", help="such as '/chat/*' or '/chat/**'")
+    publishing = add("publish", "publish a value, or each line of standard input", publish)
+    publishing.add_argument("channel", metavar="CHANNEL", help="such as /chat/hall")
+    publishing.add_argument("data", metavar="JSON", help="such as 1 or '{\"text\": \"Hello\"}'. - reads a value from each line of standard input")
     return parser.parse_args(args)
 
 

@@ -18,6 +18,11 @@ from .errors import HTTPStatus, Unreachable
 MOST_IDLE = 20.0
 
 
+def text_of(failure: Exception) -> str:
+    """Returns what failed, such as `Connection refused`."""
+    return getattr(failure, "strerror", None) or str(failure) or type(failure).__name__
+
+
 class Connection:
     """A connection to one address. Only one thread at a time may use it, but any thread may call `abort`."""
 
@@ -49,7 +54,7 @@ class Connection:
             raise Unreachable("no answer in time", True) from None
         except (OSError, http.client.HTTPException) as failure:
             self.close()
-            raise Unreachable(str(failure) or type(failure).__name__, True) from failure
+            raise Unreachable(text_of(failure), True) from failure
         except BaseException:
             self.close()
             raise
@@ -73,7 +78,7 @@ class Connection:
                 self._connection.connect()
             except OSError as failure:
                 self.close()
-                raise Unreachable(str(failure), False) from failure
+                raise Unreachable(text_of(failure), False) from failure
         return self._connection
 
     def _is_usable(self, connection: http.client.HTTPConnection) -> bool:
