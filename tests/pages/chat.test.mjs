@@ -51,8 +51,8 @@ test('joining', () => {
 test('messages, their authors and times', async () => {
   const page = join('Ann');
   const listener = page.client.listeners.get('/chat/hall');
-  const others = [null, undefined, 5, 'text', [], {}, { name: 5, text: 'x' }, { text: 'x' }, { name: 'Ann' }, { name: 'Ann', text: 5 }];
-  for (const data of [...others, ...['joined', 'left'].map((it) => ({ name: 'Ann', [it]: 'yes' }))]) listener(data);
+  const wrong = [null, undefined, 5, 'text', [], {}, { name: 5, text: 'x' }, { text: 'x' }, { name: 'Ann' }, { name: 'Ann', text: 5 }];
+  for (const data of [...wrong, ...['joined', 'left'].map((it) => ({ name: 'Ann', [it]: 'yes' }))]) listener(data);
   assert.deepEqual(chatOf(page)[3], [], 'what has another form is not shown');
   for (const data of [{ joined: true }, { left: true }, { text: HOSTILE }]) listener({ name: HOSTILE, ...data });
   page.client.ongap(new Date(page.now - 3600000));
@@ -61,17 +61,12 @@ test('messages, their authors and times', async () => {
   notices.splice(2, 0, `li.other(b${quoted} p${quoted} time"${timeOf(page.now)}")`);
   assert.deepEqual(chatOf(page), ['messages write', '', '', notices]);
   // A name has the same colour in each window, and others have other colours, also those of the same letters.
-  const hues = new Set();
-  for (const name of ['Ann', 'Cleo', 'Oelc', 'Ken', 'Ümit \u{1f600}', 'Annabella Jones', 'Annabella Jonas', 'Onnabella Jones']) {
-    const found = [page, join('Dan')].map((it) => {
-      it.client.listeners.get('/chat/hall')({ name, text: 'x' });
-      return it.element('messages').lastChild.attributes['--hue'];
-    });
-    assert.equal(found[0], found[1], `the colours of ${name}`);
-    assert.ok(found[0] >= 0 && found[0] < 360);
-    hues.add(found[0]);
-  }
-  assert.equal(hues.size, 8, `the colours are ${[...hues]}`);
+  const names = ['Ann', 'Cleo', 'Oelc', 'Ken', 'Ümit \u{1f600}', 'Annabella Jones', 'Annabella Jonas', 'Onnabella Jones'];
+  const [hues, others] = [page, join('Dan')].map((it) => names.map((name) => {
+    it.client.listeners.get('/chat/hall')({ name, text: 'x' });
+    return it.element('messages').lastChild.attributes['--hue'];
+  }));
+  assert.deepEqual([hues, new Set(hues).size, hues.filter((it) => !(it >= 0 && it < 360))], [others, names.length, []]);
 });
 
 // docs/CLIENT.md, "Where a publish fails", and examples/README.md: a message that may not have been sent returns to the field, and
@@ -205,25 +200,6 @@ test('the list shows what the user sends', () => {
       Object.assign(list, { scrollHeight: 1000, clientHeight: 100, scrollTop: top });
       page.client.listeners.get('/chat/hall')({ name: 'Ann', mark, number: 1, ...data });
       assert.deepEqual([list.children.length, list.scrollTop], [1, wanted], `${JSON.stringify(data)} at ${top}, own: ${isOwn}`);
-    }
-  }
-  // A new size keeps the end in view, unless the user has scrolled up. A scroll event that comes with a new size is not the user's.
-  for (const size of ['clientWidth', 'clientHeight']) {
-    const page = join('Ann');
-    const list = page.element('messages');
-    const scroll = (top) => {
-      list.scrollTop = top;
-      list.dispatchEvent(new Event('scroll'));
-    };
-    assert.deepEqual(page.sizes, [list]);
-    for (const [before, meanwhile, wanted] of [[null, 0, 2000], [0, 900, 900], [2000, 0, 2000], [1500, 1500, 1500]]) {
-      Object.assign(list, { scrollHeight: 2000, clientHeight: 100, clientWidth: 600 });
-      page.resize();
-      if (before !== null) scroll(before);
-      list[size] += 50;
-      scroll(meanwhile);
-      page.resize();
-      assert.equal(list.scrollTop, wanted, `${size} changes at ${before}`);
     }
   }
 });

@@ -55,28 +55,19 @@ scenario('the moment of a gap: the last request that brought events, or the subs
     now = moment;
     return act();
   });
-  const lose = async (moment) => {
+  await client.start();
+  for (const moment of [2000, 6000]) {
     const count = gaps().length;
     await next(moment, () => server.lose());
     await until('there is a new session', () => gaps().length > count && server.held);
-  };
-  await client.start();
-  await lose(2000);
-  now = 3000;
-  server.next('/x', (_, __, send) => {
-    now = 3500;
-    send([{ channel: '/a', data: 'rides' }, { channel: '/x', successful: true }]);
-  });
-  for (const data of [1, 2]) await client.publish('/x', data);
-  await lose(4000);
-  await next(5000, () => server.answerHeld([]));
-  await next(6000, () => server.emit(['/a', 1]));
-  await next(7000, () => server.answerHeld([]));
-  await lose(8000);
+    await next(moment + 1000, () => server.answerHeld([]));
+    await next(moment + 2000, () => server.emit(['/a', 1]));
+    await next(moment + 3000, () => server.answerHeld([]));
+  }
   client.stop();
-  now = 9000;
+  now = 10000;
   await client.start();
-  assert.deepEqual(gaps(), [1000, 3000, 5000, 8000]);
+  assert.deepEqual(gaps(), [1000, 3000, 7000]);
 });
 
 scenario('a response that breaks off or is lost, and comes again', async (server) => {
@@ -324,22 +315,19 @@ scenario('listeners: each once, in order, with each kind of data, though one thr
 
 scenario('who unsubscribes and subscribes again gets events again', async (server) => {
   const [client] = await connected(server, {}, '/a');
-  // Two functions with the same name and text.
-  const [other, third] = ['other', 'third'].map((it) => () => client.log.push(it));
-  for (const it of [other, third, client.listener]) await client.subscribe('/a', it);
-  for (const it of [['/nothing'], ['/nothing', client.listener], ['/a', () => {}], ['/a', client.listener], ['/a', third]]) await client.unsubscribe(...it);
+  const before = server.requests.length;
+  const other = () => client.log.push('other');
+  await client.subscribe('/a', other);
+  for (const it of [['/nothing'], ['/nothing', client.listener], ['/a', () => {}], ['/a', client.listener]]) await client.unsubscribe(...it);
   await server.give(['/a', 1]);
-  await until('the other one gets it', () => client.log.at(-1) === 'other');
-  assert.deepEqual([client.log, server.messages('/meta/unsubscribe')], [['connecting', 'connected', 'other'], []]);
+  await until('the other one gets it', () => client.log.length === 3);
   await client.unsubscribe('/a', other);
   await client.subscribe('/a', client.listener);
   await client.unsubscribe('/a');
   await client.subscribe('/a', client.listener);
-  const changes = server.requests.map(([, , , [message]]) => message).filter(({ channel }) => /subscribe$/.test(channel));
-  assert.deepEqual(changes, [subscribe('/a'), unsubscribe('/a'), subscribe('/a'), unsubscribe('/a'), subscribe('/a')]);
   await server.give(['/a', 2]);
   await until('the event comes', () => client.log.length === 4);
-  assert.deepEqual(client.log[3], ['/a', 2]);
+  assert.deepEqual([client.log, sentSince(server, before)], [['connecting', 'connected', 'other', ['/a', 2]], ['unsubscribe /a', 'subscribe /a', 'unsubscribe /a', 'subscribe /a']]);
 });
 
 scenario('a rejected pattern: its own promise rejects, whoever asked for it, and the state stays', async (server) => {
@@ -357,25 +345,20 @@ scenario('a rejected pattern: its own promise rejects, whoever asked for it, and
     await client.stop();
   }
   // Before the start, the promise resolves at once, so a rejection is reported without another state. Events may come between replies.
-  const client = new Place().client(server.address, {}, '/c', '/d', bad, '/e');
+  const client = new Place().client(server.address, {}, '/c', bad, '/e');
   const errors = [];
   client.addEventListener('error', ({ error }) => errors.push([error.code, error.pattern]));
-  await client.subscribe('/meta/x', client.listener);
-  const denied = rejection('/meta/subscribe', '403::Subscription denied');
   const done = { channel: '/meta/subscribe', successful: true };
-  server.next('/meta/subscribe', (_, __, send) => send([done, { channel: '/d', data: 1 }, done, rejection('/meta/subscribe', '400::Invalid pattern'), done, denied]));
-  const before = server.requests.length;
+  server.next('/meta/subscribe', (_, __, send) => send([done, { channel: '/c', data: 1 }, rejection('/meta/subscribe', '400::Invalid pattern'), done]));
   await client.start();
-  assert.deepEqual(client.log, ['connecting', ['/d', 1], `connecting ${refused[0]}`, 'connecting /meta/x: 403::Subscription denied', 'connected']);
-  assert.deepEqual(errors, [['rejected', bad], ['rejected', '/meta/x']]);
-  assert.deepEqual(sentSince(server, before), ['handshake', ['/c', '/d', bad, '/e', '/meta/x'].map((it) => `subscribe ${it}`).join(', '), 'connect']);
+  assert.deepEqual([client.log, errors], [['connecting', ['/c', 1], `connecting ${refused[0]}`, 'connected'], [['rejected', bad]]]);
   assert.equal(await outcomeOf(client.subscribe('/f', client.listener)), 'done');
-  assert.deepEqual([[...client.listeners.keys()], server.patterns().slice(-1)], [['/c', '/d', '/e', '/f'], ['/f']]);
+  assert.deepEqual([[...client.listeners.keys()], server.patterns().slice(-4)], [['/c', '/e', '/f'], ['/c', bad, '/e', '/f']]);
   client.stop();
   // Until there is a session, the promise waits. Without one, it resolves when the client stops.
   const late = new Place().client(server.address);
   server.next('/meta/handshake', () => {});
-  late.start().catch(() => {});
+  late.start();
   const waiting = outcomeOf(late.subscribe('/late', late.listener));
   late.stop();
   assert.equal(await waiting, 'done');
@@ -406,7 +389,8 @@ scenario('many patterns, which are asked for once', async (server) => {
 scenario('callback-polling: addresses of scripts, and what is left of them', async (server) => {
   const place = new Place('http://page.example/', {});
   place.document.readyState = 'interactive';
-  const client = place.client(server.address, { name: 'Ann' }, '/a');
+  // An address may have a query.
+  const client = place.client(`${server.address}?token=a%20b`, { name: 'Ann' }, '/a');
   const started = client.start();
   await new Promise((next) => setTimeout(next, 20));
   assert.equal(place.scripts.length, 0, 'scripts before the page was loaded');
@@ -437,19 +421,14 @@ scenario('callback-polling: addresses of scripts, and what is left of them', asy
   assert.deepEqual([await late, place.scripts.at(-1).isRemoved, inUse().length], [['no answer in time', true, undefined], true, 2]);
   go();
   await until('the late script has ended', () => inUse().length === 1);
-  assert.equal(client.log.at(-1), 'interrupted no answer in time');
-  await client.publish('/a', 0);
-  assert.equal(client.log.at(-1), 'connected');
+  // As many patterns as fit into the address of a request.
+  const long = Array.from({ length: 100 }, (_, number) => `/${number}`.padEnd(4, 'x') + 'é'.repeat(126));
+  await Promise.all(long.map((it) => client.subscribe(it, () => {})));
+  assert.deepEqual([...client.subscribed], ['/a', ...long]);
   client.stop([{ channel: '/a', data: 'Bye' }]);
   const id = { clientId: 'session 1' };
   // Another origin takes only plain text.
-  assert.deepEqual(place.beacons, [[server.address, JSON.stringify([{ channel: '/a', data: 'Bye', ...id }, { channel: '/meta/disconnect', ...id }])]]);
-  // An address may have a query.
-  const long = Array.from({ length: 100 }, (_, number) => `/${number}`.padEnd(4, 'x') + 'é'.repeat(126));
-  const other = place.client(`${server.address}?token=a%20b`, {}, ...long);
-  server.next('/meta/connect', { channel: '/meta/connect', successful: true, advice: { ...ADVICE, interval: 2000 } });
-  await other.start();
-  await until('it waits for the interval', () => place.pauses.at(-1) === 2000);
-  assert.deepEqual([other.state, new URL(place.scripts.at(-1).src).searchParams.get('token'), [...other.subscribed]], ['connected', 'a b', long]);
+  assert.deepEqual(place.beacons, [[`${server.address}?token=a%20b`, JSON.stringify([{ channel: '/a', data: 'Bye', ...id }, { channel: '/meta/disconnect', ...id }])]]);
+  assert.deepEqual([...new Set(place.scripts.map(({ src }) => new URL(src).searchParams.get('token')))], ['a b']);
   assert.equal(new Set(place.scripts.map(nameOf)).size, place.scripts.length);
 });

@@ -32,13 +32,14 @@ scenario('stop in a handshake, in a pause, and before a response', async (server
 });
 
 scenario('a page that stops the client in one of its functions', async (server) => {
-  // Where it stops: the session has then begun, gets an event, or is lost.
-  for (const [at, hasSession, isGiven, isLost] of [
-    ['connecting', false, false, false],
-    ['connected', true, false, false],
-    ['/a', true, true, false],
-    ['interrupted 402::Unknown client', false, true, true],
-    ['gap', true, true, true],
+  // What the page hears when it stops, what happens before, and whether there is a session to end.
+  const [none, event, loss] = [() => {}, () => server.give(['/a', 1]), async () => {
+    await event();
+    await until('it is acknowledged', () => server.held && server.messages('/meta/connect').at(-1).ext.ack === 1);
+    await server.lose();
+  }];
+  for (const [at, act, hasSession] of [
+    ['connecting', none, false], ['connected', none, true], ['/a', event, true], ['interrupted 402::Unknown client', loss, false], ['gap', loss, true],
   ]) {
     const place = new Place();
     const client = place.client(server.address, {}, '/a');
@@ -50,11 +51,7 @@ scenario('a page that stops the client in one of its functions', async (server) 
     if (at.startsWith('interrupted')) place.endless = 1;
     const before = server.messages('/meta/disconnect').length;
     client.start();
-    if (isGiven) await server.give(['/a', 1]);
-    if (isLost) {
-      await until('it is acknowledged', () => server.held && server.messages('/meta/connect').at(-1).ext.ack === 1);
-      await server.lose();
-    }
+    await act();
     await until(`it is stopped: ${at}`, () => client.log.at(-1) === 'stopped');
     if (hasSession) await until('the session is ended', () => server.messages('/meta/disconnect').length === before + 1);
     const count = server.requests.length;
@@ -67,35 +64,29 @@ scenario('a page that stops the client in one of its functions', async (server) 
 
 scenario('a page that is left, and one to which the user returns', async (server) => {
   const place = new Place(`${server.origin}/page.html`);
-  const [client, stopped] = [['/a'], []].map((patterns) => place.client('/cometd', { share: false }, ...patterns));
+  const client = place.client('/cometd', { share: false }, '/a');
   const comeBack = async () => {
     place.dispatch('pageshow', { persisted: true });
     await until('it is connected again', () => client.state === 'connected');
   };
   client.onleave = () => [{ channel: '/a', data: 'left' }];
-  stopped.start();
-  stopped.stop();
   await client.start();
   place.dispatch('pageshow', { persisted: false });
   assert.equal(client.state, 'connected');
   place.dispatch('pagehide');
   assert.deepEqual([client.state, client.clientId, place.beacons.length], ['stopped', null, 1]);
   const [[url, blob]] = place.beacons;
-  const id = { clientId: 'session 2' };
+  const id = { clientId: 'session 1' };
   assert.deepEqual([url, blob.type], ['/cometd', 'application/json']);
   assert.deepEqual(JSON.parse(await blob.text()), [{ channel: '/a', data: 'left', ...id }, { channel: '/meta/disconnect', ...id }]);
   await comeBack();
-  assert.deepEqual([server.sessions, stopped.state], [3, 'stopped']);
   client.onleave = () => {
     throw new Error('onleave throws');
   };
   place.dispatch('pagehide');
   assert.deepEqual([place.errors, client.state, client.clientId], [['onleave throws'], 'stopped', null]);
   await comeBack();
-  client.stop();
-  place.dispatch('pageshow', { persisted: true });
-  place.dispatch('pagehide');
-  assert.deepEqual([client.state, client.clientId, server.sessions], ['stopped', null, 4]);
+  assert.equal(server.sessions, 3);
 });
 
 scenario('how the last request is sent', async (server) => {
@@ -107,12 +98,10 @@ scenario('how the last request is sent', async (server) => {
   for (const [where, extra, type, own, contentType, token] of [
     [page, {}, json, {}, 'beacon application/json', undefined],
     [page, {}, json, headers, 'application/json', 'abc'],
-    [page, {}, form, {}, 'beacon', undefined],
     [page, {}, form, headers, 'beacon', undefined],
     [page, { navigator: {} }, json, {}, 'application/json', undefined],
     [page, { navigator: {} }, form, headers, 'text/plain;charset=UTF-8', undefined],
-    [null, {}, json, {}, 'application/json', undefined],
-    [null, { navigator: {} }, json, headers, 'application/json', 'abc'],
+    [null, {}, json, headers, 'application/json', 'abc'],
   ]) {
     const place = new Place(where, extra);
     const client = place.client(server.address, { connectionType: type, share: false, headers: own }, '/a');

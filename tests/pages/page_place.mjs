@@ -96,7 +96,6 @@ export class Page {
     this.ticks = [];
     this.publishes = [];
     this.beats = []; // what it would publish of who is online
-    this.sizes = [];
     const page = this;
     for (const [whole, tag, id, text] of this.html.matchAll(/<(\w+)[^>]*\bid="(\w+)"[^>]*>([^<]*)/g)) {
       const { 1: inner = '' } = this.html.match(`<template id="${id}">([^]*?)</template>`) ?? [];
@@ -155,13 +154,7 @@ export class Page {
       }
     }
     const ResizeObserver = class {
-      constructor(change) {
-        page.resize = change;
-      }
-
-      observe(it) {
-        page.sizes.push(it);
-      }
+      observe() {}
     };
     const setInterval = (go, milliseconds) => this.ticks.push([go, milliseconds]);
     this.context = vm.createContext({ URL, URLSearchParams, Date: PageDate, document, location, BayeuxClient, ResizeObserver, setInterval });

@@ -151,22 +151,6 @@ test('a page that did not run for a while', async () => {
   }
 });
 
-// The pointer shows the values of a time until it leaves, or until the system takes it, for example to scroll.
-test('the pointer shows the values of a time', async () => {
-  const page = new Page();
-  const start = page.now;
-  await page.answer(metrics(1));
-  await page.next(metrics(2));
-  const part = (selector) => page.chart('Sessions').querySelector(selector);
-  const shown = () => [part('.value').textContent, part('.now').textContent];
-  for (const end of ['pointerleave', 'pointercancel']) {
-    part('.plot').dispatchEvent(Object.assign(new Event('pointermove'), { clientX: 100 }));
-    assert.deepEqual(shown(), ['1', `at ${new Date(start).toLocaleTimeString()}`]);
-    part('.plot').dispatchEvent(new Event(end));
-    assert.deepEqual([shown()[0], shown()[1].split(' ')[0]], ['2', 'now']);
-  }
-});
-
 // Each row of a key has the colour of its curve, also if the key leaves out series, or has those with the greatest peaks. While the
 // server does not answer, no row has a value.
 test('each row of a key has the colour of its curve', async () => {
@@ -220,11 +204,15 @@ test('all that the charts and the facts show', async () => {
     return [...texts, part('svg').attributes['aria-label'], curves, key, part('.rest').textContent, part('.cursor').attributes.d, part('.now').textContent.split(' ')[0]];
   });
   draw(SAMPLES);
-  assert.deepEqual(shown(), SHOWN[0]);
-  const plot = charts[0].querySelector('.plot');
-  plot.dispatchEvent(Object.assign(new Event('pointermove'), { clientX: 1000 - (SAMPLES.at(-1)[0] - SAMPLES[1][0]) / 1000 }));
-  assert.deepEqual(shown(), SHOWN[1]);
-  plot.dispatchEvent(new Event('pointerleave'));
+  // The system may take the pointer, for example to scroll.
+  for (const end of ['pointerleave', 'pointercancel']) {
+    assert.deepEqual(shown(), SHOWN[0]);
+    const plot = charts[0].querySelector('.plot');
+    plot.dispatchEvent(Object.assign(new Event('pointermove'), { clientX: 1000 - (SAMPLES.at(-1)[0] - SAMPLES[1][0]) / 1000 }));
+    assert.deepEqual(shown(), SHOWN[1]);
+    assert.equal(charts[0].querySelector('.now').textContent, `at ${new Date(SAMPLES[1][0]).toLocaleTimeString()}`);
+    plot.dispatchEvent(new Event(end));
+  }
   assert.deepEqual(shown(), SHOWN[0]);
   const facts = () => page.element('facts').children.map(({ tag, children: [term, value] }) => {
     assert.deepEqual([tag, term.tag, value.tag], ['div', 'dt', 'dd']);

@@ -111,29 +111,22 @@ scenario('a window takes over the session, and the open publishes of others', as
 scenario('what each window is told, and the moment of each gap', async (server) => {
   const [origin, , one, two, three] = await opened(server, ['/a', '/one'], ['/a', '/two'], ['/a', '/three']);
   const windows = [one, two, three];
-  for (const it of windows) it.hasMoments = true;
-  const next = async (moment, act, isDone) => {
+  windows.forEach((it) => (it.hasMoments = true));
+  const next = async (moment, act, clients, last) => {
     await server.holds();
     origin.now = moment;
     await act();
-    await until(`all know at ${moment}`, isDone);
+    await until(`all know at ${moment}`, () => clients.every(({ log }) => isDeepStrictEqual(told({ log }).slice(-last.length), last)));
   };
-  for (const number of [1, 2]) {
-    await next(1000 * number, () => server.emit(['/a', number]), () => windows.every(({ log }) => log.at(-1)[1] === number));
-  }
-  const lose = (moment, ...clients) => {
-    const count = two.log.length + 3;
-    return next(moment, () => server.lose(), () => clients.every(({ log, state }) => state === 'connected' && told({ log }).at(-1) === 'connected') && two.log.length >= count);
-  };
-  await lose(3000, ...windows);
+  const lost = (since) => ['interrupted 402::Unknown client', ['gap', since], 'connected'];
+  for (const number of [1, 2]) await next(1000 * number, () => server.emit(['/a', number]), windows, [['/a', number]]);
+  await next(3000, () => server.lose(), windows, lost(1000));
   assert.deepEqual(server.messages('/meta/subscribe').slice(-4), ['/a', '/one', '/two', '/three'].map((it) => subscribe(it, 2)));
   await server.renewed(() => one.stop());
   await until('the other one knows', () => three.windows.leader === two.windows.id);
-  await lose(4000, two, three);
-  const events = [1, 2].map((number) => ['/a', number]);
-  const first = ['connecting', 'connected', ...events, 'interrupted 402::Unknown client', ['gap', 1000], 'connected'];
-  const second = [...first, 'interrupted 402::Unknown client', ['gap', 3000], 'connected'];
-  assert.deepEqual([one, two, three].map(told), [[...first, 'stopped'], second, second]);
+  await next(4000, () => server.lose(), [two, three], lost(3000));
+  const first = ['connecting', 'connected', ['/a', 1], ['/a', 2], ...lost(1000)];
+  assert.deepEqual(windows.map(told), [[...first, 'stopped'], ...Array(2).fill([...first, ...lost(3000)])]);
   assert.deepEqual([two.clientId, three.clientId, two.listeners.size], ['session 3', 'session 3', 2]);
 });
 
@@ -223,37 +216,7 @@ scenario('a window whose leader has no session, or does not hear it', async (ser
   assert.deepEqual([await outcomeOf(two.publish('/x', 1)), two.state], ['done', 'connected']);
 });
 
-scenario('many windows, which leave one after another', async (server) => {
-  const [, windows, ...clients] = await opened(server, ...Array.from({ length: 6 }, (_, number) => ['/a', `/own/${number}`]));
-  // A pattern is unsubscribed once no window has it.
-  server.requests.splice(0);
-  await clients[0].unsubscribe('/a');
-  await clients[2].unsubscribe('/own/2', clients[2].listener);
-  await clients[3].subscribe('/own/2', clients[3].listener);
-  const changes = server.requests.flatMap(([, , , messages]) => messages).filter(({ channel }) => /subscribe$/.test(channel));
-  assert.deepEqual(changes, [unsubscribe('/own/2'), subscribe('/own/2')]);
-  clients.forEach(({ log }) => log.splice(0));
-  // Each takes over in turn, continues after the last batch, and ends its pause for another window.
-  for (let number = 1; number < 6; number++) {
-    await server.renewed(() => clients[number - 1].stop());
-    assert.equal(server.messages('/meta/connect').at(-1).ext.ack, server.batch);
-    const rest = clients.slice(number);
-    server.emit(['/a', number]);
-    await until('the event comes', () => rest.every(({ log }) => log.length > 0));
-    await server.holds();
-    windows[number].endless = windows[number].pauses.length + 1;
-    server.refuse('/meta/connect', 502);
-    server.answerHeld([]);
-    await until('it pauses, and the last window knows', () => windows[number].pauses.length === windows[number].endless && clients[5].state === 'interrupted');
-    windows[5].dispatch('online');
-    await until('all are connected', () => rest.every(({ state }) => state === 'connected'));
-    for (const { log } of rest) assert.deepEqual(log.splice(0).filter((it, at, all) => it !== all[at - 1]), [['/a', number], 'interrupted HTTP status 502', 'connected']);
-  }
-  clients[5].stop();
-  assert.deepEqual([server.sessions, windows.map((it) => lastOf(it)?.length)], [1, [...Array(5), 1]]);
-});
-
-scenario('windows that stop and start again', async (server) => {
+scenario('windows that stop and start again, and whose leader pauses', async (server) => {
   const [, windows, one, two] = await opened(server, ['/a', '/one'], ['/a', '/two']);
   await server.holds();
   two.stop();
@@ -262,11 +225,18 @@ scenario('windows that stop and start again', async (server) => {
   await one.start();
   await server.renewed(() => server.emit(['/a', 1]));
   await until('the event comes', () => one.log.at(-1)[1] === 1);
+  // The user returns to a window that does not lead.
+  windows[1].endless = windows[1].pauses.length + 1;
+  server.refuse('/meta/connect', 502);
+  server.answerHeld([]);
+  await until('the other one knows of the pause', () => windows[1].pauses.length === windows[1].endless && one.state === 'interrupted');
+  windows[0].dispatch('online');
+  await until('both are connected', () => [one, two].every(({ state }) => state === 'connected'));
   await server.renewed(() => two.stop());
   await server.give(['/a', 2]);
   await until('the event comes', () => one.log.at(-1)[1] === 2);
-  const again = ['connecting', 'connected', 'stopped', 'connecting', 'gap', 'connected', ['/a', 1]];
-  assert.deepEqual([one.log, two.log, server.sessions], [[...again, ['/a', 2]], [...again, 'stopped'], 1]);
+  const again = ['connecting', 'connected', 'stopped', 'connecting', 'gap', 'connected', ['/a', 1], 'interrupted HTTP status 502', 'connected'];
+  assert.deepEqual([told(one), told(two), server.sessions], [[...again, ['/a', 2]], [...again, 'stopped'], 1]);
   one.stop();
   assert.deepEqual(windows.map((it) => lastOf(it)?.length), [1, undefined]);
 });
@@ -350,16 +320,15 @@ scenario('a browser that denies locks: the window has its own session', async (s
 scenario('which windows share a session', async () => {
   // docs/CLIENT.md, "Windows that share a session".
   const both = { locks: {}, BroadcastChannel: class {} };
-  for (const [what, page, { locks, ...extra }, isShared] of [
-    ['a page over HTTPS', 'https://a.example/page.html', both, true],
-    ['a page on localhost', 'http://localhost:8000/page.html', both, true],
-    ['a page from disk', 'file:///home/page.html', both, false],
-    ['a page over HTTP from another machine', 'http://a.example/page.html', { BroadcastChannel: both.BroadcastChannel }, false],
-    ['a browser without BroadcastChannel', 'https://a.example/page.html', { locks: both.locks }, false],
+  for (const [page, { locks, ...extra }, isShared] of [
+    ['https://a.example/page.html', both, true],
+    ['file:///home/page.html', both, false],
+    ['http://a.example/page.html', { BroadcastChannel: both.BroadcastChannel }, false],
+    ['https://a.example/page.html', { locks: both.locks }, false],
   ]) {
     const place = new Place(page, { origin: new URL(page).origin, ...extra });
     if (locks) place.context.navigator.locks = locks;
-    assert.equal(place.client('http://127.0.0.1/cometd').isShared, isShared, what);
+    assert.equal(place.client('http://127.0.0.1/cometd').isShared, isShared, page);
   }
 });
 
