@@ -8,6 +8,16 @@ from pages import Client
 
 # Keeps the clients of a page from noticing that it closes, as if its process had failed.
 IGNORE_CLOSE = "window.addEventListener('pagehide', (it) => it.stopImmediatePropagation(), true)"
+# Starts a client of the script, and one of the module, which publishes an event. Records who gets it.
+START_BOTH = """
+window.events = [];
+const clients = [BayeuxClient, ModuleClient].map((Kind, number) => {
+  const client = new Kind('/cometd');
+  client.subscribe('/a', () => events.push(number));
+  return client;
+});
+return Promise.all(clients.map((it) => it.start())).then(() => clients[1].publish('/a', 1));
+"""
 
 
 @pytest.fixture
@@ -46,6 +56,15 @@ def test_eight_clients_share_one_session(site, clients):
     assert site.count("/meta/handshake") == 1
     wait_until("one connect is held", lambda: (len(site.waiting), site.held_connects()) == (1, 1))
     assert all(it.log.count("from the second page") == 1 and not it.gaps() for it in clients)
+
+
+def test_script_and_module_share_a_session(server, site, window):
+    server.restart("--sessions", "1")
+    page = window(site.address)
+    wait_until("the module is loaded", lambda: page.run("return typeof ModuleClient === 'function' && ModuleClient !== BayeuxClient"))
+    page.run(START_BOTH)
+    wait_until("both get the event", lambda: sorted(page.run("return events")) == [0, 1])
+    assert site.count("/meta/handshake") == 1
 
 
 def test_another_window_takes_over_if_the_leading_one_closes(server, site, pages, clients):

@@ -141,7 +141,7 @@ export class Page {
         return Promise.resolve();
       }
 
-      start() {
+      async start() {
         this.isStarted = true;
       }
 

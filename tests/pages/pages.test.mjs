@@ -1,13 +1,13 @@
-// What the pages of examples have in common, and the script of the tutorial, without a browser.
+// What the pages of examples have in common, and the scripts of documents, without a browser.
 import assert from 'node:assert/strict';
 import test from 'node:test';
 import { HOSTILE, NO_ANSWER, Page, PAGES, read, SITE } from './page_place.mjs';
 
-/** Returns the code in `language` of the tutorial that has `text`. */
-function tutorial(language, text) {
-  const blocks = [...read('../docs/TUTORIAL.md').matchAll(/^```(\w+)\n(.*?)^```$/gms)];
+/** Returns the code in `language` of a page of docs that has `text`. */
+function codeOf(page, language, text) {
+  const blocks = [...read(`../docs/${page}`).matchAll(/^```(\w+)\n(.*?)^```$/gms)];
   const found = blocks.filter(([, kind, code]) => kind === language && code.includes(text)).map(([, , code]) => code);
-  assert.equal(found.length, 1, `the tutorial has ${found.length} blocks in ${language} with ${text}`);
+  assert.equal(found.length, 1, `${page} has ${found.length} blocks in ${language} with ${text}`);
   return found[0];
 }
 
@@ -94,7 +94,7 @@ test('ages, numbers and failed publishes as texts', () => {
 // The script of the tutorial draws the last sixty numbers, the newest at the right.
 test('the script of the tutorial', () => {
   const page = new Page(SITE);
-  page.run(tutorial('js', 'points.push'));
+  page.run(codeOf('TUTORIAL.md', 'js', 'points.push'));
   const [[pattern, listener]] = page.client.listeners;
   assert.deepEqual([page.client.url, pattern, page.client.isStarted], ['/cometd', '/load/*', true]);
   page.client.onstate('interrupted', 'fetch failed');
@@ -106,7 +106,24 @@ test('the script of the tutorial', () => {
   for (let number = 1; number <= 100; number++) listener(number);
   assert.equal(page.element('value').textContent, '100.00');
   assert.deepEqual(points(), Array.from({ length: 60 }, (_, at) => [10 * at, 145 - (140 * (41 + at)) / 100]));
-  for (const it of ['id="state" role="status"', 'id="value"', 'viewBox="0 0 600 150"', 'id="curve"']) assert.ok(tutorial('html', 'id="curve"').includes(it), it);
+  for (const it of ['id="state" role="status"', 'id="value"', 'viewBox="0 0 600 150"', 'id="curve"']) assert.ok(codeOf('TUTORIAL.md', 'html', 'id="curve"').includes(it), it);
+});
+
+// The example of the client's guide loads the state once it is connected and after a gap, and shows the newest one.
+test('the example that loads the state', async () => {
+  const page = new Page(SITE);
+  const states = [{ version: 1, price: 10 }, { version: 4, price: 13 }, { version: 4, price: 13 }];
+  Object.assign(page.context, { console, fetch: async (url) => ({ json: async () => url === '/price.json' && states.shift() }) });
+  const prices = [];
+  page.run(codeOf('CLIENT.md', 'js', 'client.ongap = '));
+  const [[pattern, listener]] = page.client.listeners;
+  assert.equal(pattern, '/price');
+  for (const act of [() => {}, () => listener({ version: 3, price: 12 }), () => listener({ version: 2, price: 11 }), () => page.client.ongap(new Date())]) {
+    act();
+    await new Promise((go) => setTimeout(go));
+    prices.push(page.element('price').textContent);
+  }
+  assert.deepEqual([prices, states.length], [[10, 12, 12, 13], 1]);
 });
 
 // What a screen reader announces without being asked (WCAG 2, 4.1.3), and that no page runs a text as HTML or as a script.

@@ -8,6 +8,7 @@ import itertools
 import logging
 import re
 import threading
+from concurrent.futures import ThreadPoolExecutor
 from typing import Any
 
 import pytest
@@ -117,19 +118,17 @@ class TestPublish:
         with pytest.raises(Rejected, match="400::Invalid channel") as caught:
             client.publish("/b", 1)
         assert (caught.value.number, script.sessions) == (400, 1)
-        script.next("/b", unknown("/b"))
-        client.publish("/b", 2)
-        assert (script.data("/b"), script.sessions) == ([[1], [2], [2]], 2)
+        for _ in range(2):
+            script.next("/b", unknown("/b"))
+        assert client.publish_all([("/b", 2), ("/b", 3)]) == [None, None]
+        assert (script.data("/b"), script.sessions) == ([[1], [2, 3], [2, 3]], 2)
         for _ in range(2):
             script.next("/b", unknown("/b"))
         with pytest.raises(Rejected, match="402"):
-            client.publish("/b", 3)
-
-    def test_a_full_server(self, script: Script, client: Client) -> None:
+            client.publish("/b", 4)
         script.next("/meta/handshake", rejected("/meta/handshake", "503::Too many sessions", reconnect="handshake"))
-        with pytest.raises(Rejected) as caught:
-            client.publish("/b", 1)
-        assert caught.value.number == 503
+        with pytest.raises(Rejected, match="503::Too many sessions"):
+            client.publish("/b", 5)
 
     def test_many_in_few_requests(self, script: Script, client: Client) -> None:
         script.next("/b", rejected("/b", "400::Missing data"))
@@ -145,22 +144,12 @@ class TestPublish:
         outcomes = client.publish_all([("/b", 1), ("/forbidden", 2), ("/b", 3)])
         assert [type(it) for it in outcomes] == [type(None), Forbidden, type(None)]
 
-    def test_those_that_a_lost_session_has_not_taken_are_sent_again(self, script: Script, client: Client) -> None:
-        client.publish("/b", 0)
-        script.next("/b", unknown("/b"))
-        script.next("/b", unknown("/b"))
-        assert client.publish_all([("/b", 1), ("/b", 2)]) == [None, None]
-        assert script.data("/b") == [[0], [1, 2], [1, 2]]
-
     def test_threads(self, script: Script, client: Client) -> None:
-        threads = [threading.Thread(target=lambda number=it: [client.publish("/b", number * 100 + count) for count in range(50)]) for it in range(8)]
-        for it in threads:
-            it.start()
-        for it in threads:
-            it.join()
+        with ThreadPoolExecutor(8) as pool:
+            list(pool.map(lambda number: [client.publish("/b", (number, it)) for it in range(50)], range(8)))
         found = [data for [data] in script.data("/b")]
-        assert sorted(found) == sorted(number * 100 + count for number in range(8) for count in range(50))
-        assert all([it for it in found if it // 100 == number] == list(range(number * 100, number * 100 + 50)) for number in range(8))
+        assert sorted(found) == [[number, it] for number in range(8) for it in range(50)]
+        assert all([it for it in found if it[0] == number] == [[number, it] for it in range(50)] for number in range(8))
         assert script.sessions == 1
 
     @pytest.mark.parametrize("data", [float("nan"), {1, 2}, b"x"])

@@ -1,58 +1,42 @@
 """The client and its command with a real server. BAYEUXD: the path of a bayeuxd."""
 from __future__ import annotations
 
+import itertools
 import os
 import pathlib
 import select
 import signal
 import subprocess
 import sys
-import threading
-import time
 from collections.abc import Callable
+from concurrent.futures import ThreadPoolExecutor
 
 from servers import HANDSHAKE, Daemon, free_port
 
-from gadzilk_client import Client, Event
+from gadzilk_client import Client
 
 FOLDER = pathlib.Path(__file__).resolve().parent.parent
 FORMER = FOLDER / "bayeux.py"  # the former name of the client
 
 
 def test_events_arrive_once_and_in_order_over_a_restart(start: Callable[..., Daemon]) -> None:
-    daemon = start()
-    gaps: list[object] = []
-    found: list[Event] = []
-    subscribed = threading.Event()
+    daemon, gaps = start(), []  # type: ignore[var-annotated]
+    with Client(daemon.url, on_gap=gaps.append) as reader, Client(daemon.url) as writer, ThreadPoolExecutor() as pool:
+        numbers = (it.data for it in reader.listen("/many/*") if it.channel == "/many/x")
 
-    def keep_gap(since: object) -> None:
-        gaps.append(since)
-        subscribed.set()
+        def first(data: object) -> object:
+            """Publishes until the reader has subscribed. Returns what it then reads."""
+            found = pool.submit(next, numbers)
+            while not found.done():
+                writer.publish("/many/x", data)
+            return found.result(20)
 
-    with Client(daemon.url, on_gap=keep_gap) as reader, Client(daemon.url) as writer:
-
-        def listen() -> None:
-            for event in reader.listen("/many/*"):
-                found.append(event)
-                if event.data == "end":
-                    return
-                subscribed.set()
-
-        thread = threading.Thread(target=listen)
-        thread.start()
-        while not subscribed.wait(0.05):
-            writer.publish("/many/ready", 0)
+        assert first("begin") == "begin"
         assert writer.publish_all(("/many/x", it) for it in range(1000)) == [None] * 1000
-        while len([it for it in found if it.channel == "/many/x"]) < 1000:
-            time.sleep(0.01)
-        subscribed.clear()
+        assert [it for it in itertools.islice((it for it in numbers if it != "begin"), 1000)] == list(range(1000))
         daemon.kill()
         daemon.start()
-        assert subscribed.wait(20)
-        writer.publish("/many/x", "end")
-        thread.join(20)
-        assert [it.data for it in found if it.channel == "/many/x"] == [*range(1000), "end"]
-        assert len(gaps) == 1
+        assert (first("end"), len(gaps)) == ("end", 1)
 
 
 def test_the_command(start: Callable[..., Daemon], tmp_path: pathlib.Path) -> None:
