@@ -22,48 +22,7 @@ NO_PRODUCTS = re.compile(r".*_tests|bx_(refusals|http_runs|calls|gates|bench)")
 
 # Numbers up to this one, and shifts by fewer bits, need no name.
 SMALL, BITS = 64, 6
-# The constants above `SMALL`, by their file. A comment above each says what it is for.
-CONSTANTS = {
-    "bayeux_load/src/client.rt": "QUIET",
-    "bayeux_load/src/link.rt": "KEPT OK",
-    "bayeux_load/src/part.rt": "PATIENCE SILENCE",
-    "bayeux_load/src/report.rt": "MICROS_PER_MILLI PERCENTAGES",
-    "bayeux_load/src/tally.rt": "NANOS_PER_MICRO",
-    "bayeux_load/src/worker.rt": "BUFFER EVENTS SHOWN",
-    "bayeuxd/src/end.rt": "BUFFER",
-    "bayeuxd/src/metrics.rt": "HEAD PATIENCE",
-    "bayeuxd/src/serve.rt": "LEAVE",
-    "bayeuxd/src/starting.rt": "SECOND",
-    "bayeuxd/src/ticker.rt": "KEPT TICK",
-    "bx_advice/src/limit.rt": "BODY_LIMIT MAX_ENTRIES MAX_MOMENT STANDARD_LIMITS",
-    "bx_cut/src/document.rt": "MAX_MESSAGES",
-    "bx_fanout/src/pass_over.rt": "DEFERRED_LIMIT",
-    "bx_fanout/src/round_state.rt": "SHARED_WORK",
-    "bx_hub/src/hub.rt": "TRIM_ROOM",
-    "bx_load/src/latencies.rt": "ALL COUNTS EXACT WIDTH",
-    "bx_load/src/response.rt": "MAX_HEAD",
-    "bx_load/src/shares.rt": "NANOS_PER_SECOND",
-    "bx_message/src/write.rt": "REPLY_ROOM",
-    "bx_metrics/src/channel_lines.rt": "MAX_PATTERNS MAX_SUBSCRIPTIONS",
-    "bx_metrics/src/histogram.rt": "BOUNDS",
-    "bx_metrics/src/metric.rt": "METRICS",
-    "bx_metrics/src/page.rt": "ROOM",
-    "bx_metrics/src/process.rt": "PAGE_BYTES TICKS",
-    "bx_metrics/src/session_lines.rt": "MAX_LIST_BYTES MAX_SESSIONS",
-    "bx_names/src/limits.rt": "MAX_NAME_BYTES",
-    "bx_pieces/src/tail.rt": "PIECE",
-    "bx_record/src/answer.rt": "ANSWER_LENGTH",
-    "bx_record/src/waiting.rt": "MAX_WAITING_BYTES",
-    "bx_record/src/writer.rt": "SOON",
-    "bx_script/src/output.rt": "MAX_INTERRUPTIONS",
-    "bx_script/src/part.rt": "MAX_READS",
-    "bx_serve/src/spawn_each.rt": "BUDGET",
-    "bx_settings/src/flags.rt": "SECOND",
-    "bx_settings/src/seed.rt": "MAX_FILE_BYTES",
-    "bx_transport/src/callback.rt": "CALLBACK_LIMIT",
-    "bx_window/src/writer.rt": "MAX_BATCHES MAX_STEPS",
-}
-# Other numbers above `SMALL`: what they are, and which files have them.
+# Numbers above `SMALL` that are no named constants: what they are, and which files have them.
 NUMBERS = (
     ("surrogates of UTF-16, and hexadecimal digits", {"bx_cut/src/string.rt": "0x10000 0xd800 0xdc00 0xe000 1024 256 4096"}),
     ("characters of ASCII", {"bx_names/src/fault.rt": "0x7F", "bx_registry/src/id.rt": "87", "bx_record/src/nonce.rt": "87"}),
@@ -270,19 +229,16 @@ def has_comment(path: str, name: str) -> bool:
 
 
 def test_large_numbers_are_named_constants(products):
-    named = {(path, name) for path, names in CONSTANTS.items() for name in names.split()}
-    unused, wrong = named | rows(NUMBERS), []
+    unused, wrong = rows(NUMBERS), set()
     for path, items in products.items():
         for line, number, constant in large_numbers(items):
-            found = (path, constant or number)
-            unused.discard(found)
-            if found not in (named if constant else rows(NUMBERS)):
-                commented = "make it a constant in CONSTANTS, with a comment that says why it has this value"
-                advice = f"add {constant} to CONSTANTS" if constant else commented
-                wrong.append(f"crates/{path}:{line}: {number}: {advice}")
-    wrong += [f"crates/{path}: {name}: add a comment that says why it has this value" for path, name in named - unused if not has_comment(path, name)]
-    assert not wrong, "\n".join(wrong)
-    assert not unused, "the tables have rows that are not needed"
+            unused.discard((path, number))
+            if constant and not has_comment(path, constant):
+                wrong.add(f"crates/{path}: {constant}: add a comment that says why it has this value")
+            elif not constant and (path, number) not in rows(NUMBERS):
+                wrong.add(f"crates/{path}:{line}: {number}: make it a constant, with a comment that says why it has this value")
+    assert not wrong, "\n".join(sorted(wrong))
+    assert not unused, "the table has rows that are not needed"
 
 
 def test_faults_come_from_calls_that_failed(products):

@@ -10,26 +10,19 @@ from daemon import subscribe
 from documented import expect_documented
 from metrics import CONNECTS_HELD, OPEN, REFUSED_TICKS, REQUESTS_HELD, ask_for, read_list
 from runs import ANYWHERE, run
-from waiting import wait_for_reads
 
 # The number of shards, and the numbers of the sessions with a held connect. Sessions are assigned to shards in turn.
 SHARDS, HOLDING = 64, range(0, 64, 9)
 UNANSWERED = "the answer is unavailable"
 # How long the daemon serves open connections after the end of standard input, in seconds.
 LEAVE = 1.0
-# After how many waits for events all threads of the daemon have most probably looked at the clock.
-LOOKS = 200
 
 
 def end_second(server, clock):
-    """Lets the second pass in which the daemon serves open connections, and checks its end.
-
-    The second may begin only after the clock was put forward, so that it is put forward again if the daemon has not ended soon.
-    """
-    for _ in range(3):
-        clock.add(LEAVE + 0.05)
-        before = clock.looks()
-        wait_until("the daemon ends or waits", lambda before=before: server.process.poll() is not None or clock.looks() >= before + LOOKS)
+    """Lets the second pass in which the daemon serves open connections, and checks its end."""
+    # The second has begun.
+    server.wait_for_rest()
+    clock.add(LEAVE + 0.05)
     server.expect_end()
 
 
@@ -96,7 +89,7 @@ def test_late_body_and_health_get_503(daemon, client, clock):
     expect_status(idle, post(b"[]"), 200)
     request = post(b"[     ]")
     connection.send(request[:-4])
-    wait_for_reads(connection)
+    connection.wait_until_read()
     server.process.stdin.close()
     wait_until("refused ticks", lambda: server.scrape()[REFUSED_TICKS] > 0)
     assert ask_for(server.metrics, get(b"", b"/healthz")).status == 503
@@ -116,9 +109,7 @@ def test_open_connection_is_served_for_a_second(daemon, client, clock):
     before = server.scrape()[REFUSED_TICKS]
     wait_until("more refused ticks", lambda: server.scrape()[REFUSED_TICKS] > before + 1)
     expect_status(connection, post(b"[]"), 503, "the server is shutting down")
-    # The second may have begun only after the clock was set forward.
-    clock.add(LEAVE + 0.05)
-    server.expect_end()
+    end_second(server, clock)
 
 
 @pytest.mark.parametrize("until", [[], ["--until-eof"]], ids=["", "until eof"])

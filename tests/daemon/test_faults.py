@@ -12,7 +12,6 @@ from daemon import ConnectionEnded, check_serves, has_sanitizer, with_sanitizer_
 from runs import ANYWHERE, faults, match, run, without_times
 from strace import NO_STRACE, can_trace, failing, injected, start_traced
 from subscriber import Publisher, Subscriber, check_events
-from waiting import wait_until_idle
 
 # A fault: the arguments of `failing`, how many calls must have failed, and whether only calls on the record fail.
 Fault = namedtuple("Fault", "calls error when count is_record", defaults=(8, False))
@@ -90,7 +89,7 @@ def check_service(server, count, until):
     serve_clients(server, count, until)
     wait_until("a new client is served", lambda: is_served(server))
     wait_until(f"at most {before} descriptors are open", lambda: server.descriptors() <= before)
-    wait_until_idle("clients", server)
+    server.wait_until_idle("clients")
 
 
 @pytest.mark.timeout(600)

@@ -5,7 +5,6 @@ import urllib.parse
 import pytest
 
 from daemon import FORM, HANDSHAKE, expect_status, expect_success, get, post, post_coded
-from waiting import wait_for_reads
 
 JSON = b"application/json"
 # The most bytes of a body in a daemon with a small limit.
@@ -98,7 +97,7 @@ def test_body_may_arrive_after_its_head(daemon, client, clock, kind, late, pause
     connection, request = client(daemon(env=clock.env)), post(body, media_type)
     at = len(request) - (late or len(body))
     connection.send(request[:at])
-    wait_for_reads(connection)
+    connection.wait_until_read()
     clock.add(pause)
     connection.send(request[at:])
     expect_success(connection.response().items(), 1)

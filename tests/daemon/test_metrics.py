@@ -14,11 +14,10 @@ import pytest
 
 from base import wait_until
 from daemon import CONNECT, HANDSHAKE, MOST_MESSAGES, Connection, ConnectionEnded, expect_error, expect_status, expect_success, get
-from daemon import open_session, post, post_coded, send_connect, subscribe
+from daemon import open_many, open_session, post, post_coded, send_connect, subscribe
 from documented import documented_errors, documented_reasons, expect_documented
 from metrics import CONNECTS_HELD, FILED, OPEN, OPENED, REFUSED_TICKS, REQUESTS_HELD, SESSIONS, TICKED, ask_for, read_page
 from metrics import wait_for_metrics
-from waiting import wait_for_reads, wait_until_idle
 
 CHANNEL = "/watched"
 # The bytes of a field in a long head for the metrics listener, such as the cookies of a browser.
@@ -81,7 +80,7 @@ def test_request_for_metrics_may_arrive_in_parts(daemon, client, clock, parts):
     connection = client(daemon(env=clock.env).metrics)
     for part in PARTS[parts]:
         connection.send(part)
-        wait_for_reads(connection)
+        connection.wait_until_read()
     assert [it.status for it in connection.read_to_end()] == [200]
 
 
@@ -93,7 +92,7 @@ def test_request_for_metrics_may_take_two_seconds(daemon, client, clock, pause, 
     with contextlib.suppress(ConnectionEnded):
         for part, passed in ((b"GET /healthz HTTP/1.1\r\n", pause / 2), (b"host: h\r\n", pause / 2), (b"x: x\r\n", 0), (b"\r\n", 0)):
             connection.send(part)
-            wait_for_reads(connection)
+            connection.wait_until_read()
             clock.add(passed)
     assert [it.status for it in connection.read_to_end()] == statuses
     server.scrape()
@@ -341,22 +340,24 @@ HEARERS, PUBLISHED, LEAST_DATA = 4000, 600, 4096
 
 
 @pytest.mark.alone
-def test_metrics_show_the_lag_of_shards_without_memory(daemon, client, is_checked):
+def test_metrics_show_the_lag_of_shards_without_memory(daemon, client, ticks, is_checked):
     """Later no shard lags."""
     if is_checked:
         pytest.skip("a checked build gets memory in other ways")
-    server = daemon("--shards", "2", "--limit", "65536")
+    server = daemon("--shards", "2", "--limit", "65536", env=ticks.env)
     connection = client(server)
-    replies = [it.items()[0] for it in connection.repeat(post(json.dumps([HANDSHAKE]).encode()), HEARERS)]
-    subscriptions = [{"channel": "/meta/subscribe", "clientId": it["clientId"], "subscription": CHANNEL} for it in replies]
+    sessions = open_many(connection, HEARERS)
     for at in range(0, HEARERS, MOST_MESSAGES):
-        some = subscriptions[at : at + MOST_MESSAGES]
+        some = [{"channel": "/meta/subscribe", "subscription": CHANNEL, **it} for it in sessions[at : at + MOST_MESSAGES]]
         expect_success(connection.ask(some), len(some))
-    events = post(json.dumps([{"channel": CHANNEL, "data": 1, "clientId": replies[0]["clientId"]}] * 4).encode())
-    first, sent, unlimited = server.scrape()[TICKED], 0, (resource.RLIM_INFINITY, resource.RLIM_INFINITY)
+    caught_up = dict.fromkeys([BEHIND, *LAGS], 0)
+    # Then the thread of ticks has some memory.
+    ticks.tick(10)
+    first = server.expect(caught_up, pause=ticks.tick)[TICKED]
+    events, sent = post(json.dumps([{"channel": CHANNEL, "data": 1, **sessions[0]}] * 4).encode()), 0
 
     def lags():
-        """Returns the lag of each shard after a time without memory, or `None` if no shard lags, or if there was no tick."""
+        """Returns the lag of each shard after a time without memory, or `None` if no shard lags."""
         nonlocal sent
         resource.prlimit(server.process.pid, resource.RLIMIT_DATA, (LEAST_DATA, resource.RLIM_INFINITY))
         for _ in range(PUBLISHED // 4):
@@ -366,16 +367,16 @@ def test_metrics_show_the_lag_of_shards_without_memory(daemon, client, is_checke
                 connection.send(events)
                 connection.response()
             sent += 4
-        time.sleep(0.3)
-        resource.prlimit(server.process.pid, resource.RLIMIT_DATA, unlimited)
+            ticks.tick()
+        resource.prlimit(server.process.pid, resource.RLIMIT_DATA, (resource.RLIM_INFINITY, resource.RLIM_INFINITY))
         page = server.scrape()
         found = [page[it] for it in LAGS]
         return found if any(found) and page[BEHIND] else None
 
     found = wait_until("a shard is behind", lags)
-    # A request that is rejected for lack of memory may be an entry too, and so may a tick that is not counted yet.
-    assert max(found) <= sent + server.scrape()[TICKED] - first + 1
-    wait_until("no shard is behind", lambda: not any(server.scrape()[it] for it in (BEHIND, *LAGS)))
+    # A request that is rejected for lack of memory may be an entry too.
+    assert max(found) <= sent + server.scrape()[TICKED] - first
+    server.expect(caught_up, pause=ticks.tick)
 
 
 def test_metrics_are_served_after_a_lack_of_descriptors(daemon, client, ticks):
@@ -385,22 +386,10 @@ def test_metrics_are_served_after_a_lack_of_descriptors(daemon, client, ticks):
     time of a tick, which does not pass here. Without a pause, it would keep a processor busy.
     """
     server = daemon(env=ticks.env)
-
-    def page_without_descriptors():
-        """Returns the page, or `None` if the listener did not wait for a connection yet."""
-        # After a request, the listener waits for the next connection.
-        ask_for(server.metrics, get(b"", b"/healthz"))
-        with server.without_descriptors():
-            connection = client(server.metrics)
-            connection.send(get(b"", b"/metrics"))
-            wait_until_idle("a descriptor", server)
-            connection.socket.settimeout(2)
-            try:
-                (response,) = connection.read_to_end()
-            except AssertionError:
-                return None
-        return read_page(response.body.decode())
-
-    page = wait_until("metrics without a free descriptor", page_without_descriptors)
-    assert not [name for name, _ in page if name.startswith("process_")]
+    with server.without_descriptors():
+        connection = client(server.metrics)
+        connection.send(get(b"", b"/metrics"))
+        (response,) = connection.read_to_end()
+        server.wait_until_idle("a descriptor")
+    assert not [name for name, _ in read_page(response.body.decode()) if name.startswith("process_")]
     assert [name for name, _ in server.scrape() if name.startswith("process_")]

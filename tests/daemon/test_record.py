@@ -7,7 +7,7 @@ import re
 import pytest
 
 from base import TIMEOUT_SECONDS, limit_file_size, wait_until
-from daemon import CONNECT, MOST_MESSAGES, expect_status, expect_success, open_session, post, publish, subscribe
+from daemon import CONNECT, MOST_MESSAGES, OWN_PAGES, expect_status, expect_success, open_session, post, publish, subscribe
 from documented import expect_documented
 from strace import NO_STRACE, STRACE, can_trace, start_traced
 
@@ -80,7 +80,7 @@ def test_record_has_a_publish_directly_before_the_end(daemon, client, tmp_path, 
 def test_daemon_that_cannot_write_its_record_keeps_nothing_for_it(daemon, client, ticks, tmp_path):
     """Without the end of the record, 64 MiB may wait, and a line of at least 69 bytes for each small body."""
     flags = ["--anonymous", "--record", str(tmp_path / "record"), "--record-answers"]
-    server = daemon(*flags, env=ticks.env, preexec_fn=lambda: limit_file_size(50_000))
+    server = daemon(*flags, env={**ticks.env, **OWN_PAGES}, preexec_fn=lambda: limit_file_size(50_000))
     connection = client(server)
 
     def send_largest(count):

@@ -14,10 +14,9 @@ import urllib.parse
 
 import pytest
 
-from base import TIMEOUT_SECONDS, has_compiler, limit_file_size, wait_until
+from base import has_compiler, limit_file_size, wait_until
 from daemon import CONNECT, FORM, HANDSHAKE, Connection, check_serves, get, post
 from recording import Check, read_record
-from runs import ANYWHERE, run
 
 RUNS = {
     "shards": ["--shards", "4"],
@@ -40,28 +39,15 @@ REFUSED = [
     {"channel": "/meta/subscribe", "subscription": "/a/**/b"},
     {"channel": "/meta/handshake", "version": "1.0", "supportedConnectionTypes": ["none\u2028"]},
 ]
-# What a connect acknowledges, given the last batch: this batch, nothing, or the one before it.
-ACKNOWLEDGED = [lambda last: last] * 3 + [lambda last: None] * 2 + [lambda last: max(last - 1, 0)]
 CALLBACK = b"a.b[0]"
-
-
-def by_lines(documents):
-    """Returns a POST of `documents` with line ends between members."""
-    return post(documents.replace(b', "', b',\r\n "'))
-
-
-def in_form(documents):
-    """Returns a form with `documents` and an empty document."""
-    return post(b"other=1&message=" + urllib.parse.quote_plus(documents).encode() + b"&message=[]", FORM)
-
-
-def in_query(documents):
-    """Returns a query with `documents` and a callback, or a POST if it would be too long."""
-    query = urllib.parse.quote(documents).encode()
-    return post(documents) if len(query) > 30_000 else get(b"?jsonp=a.b%5B0%5D&message=" + query)
-
-
-WAYS = [post, post, by_lines, in_form, in_query]
+# How to send documents: as they are, with line ends between members, as a form with an empty document, or as a query with a callback.
+WAYS = [
+    post,
+    post,
+    lambda it: post(it.replace(b', "', b',\r\n "')),
+    lambda it: post(b"other=1&message=" + urllib.parse.quote_plus(it).encode() + b"&message=[]", FORM),
+    lambda it: get(b"?jsonp=a.b%5B0%5D&message=" + urllib.parse.quote(it).encode()) if len(it) < 10_000 else post(it),
+]
 
 
 def digest_of(response):
@@ -77,19 +63,20 @@ def digest_of(response):
 class Client(threading.Thread):
     """A client that makes random requests.
 
-    `listeners`: the addresses of publishers, and maybe of readers. Its connects go to the next listener after the one of its other
-    requests. `seen`: the status, and the digest of the body, of each response by the mark of its request. `finish`: all clients wait
-    at it before their last connects.
+    Its connects go to the next listener of the daemon after the one of its other requests. `finish`: all clients wait at it before
+    their last connects. `seen`: the status, and the digest of the body, of each response by the mark of its request.
     """
 
-    def __init__(self, number, listeners, clock, finish, turns):
+    def __init__(self, number, server, clock, finish, turns):
         super().__init__(daemon=True)
-        self.number, self.address, self.clock, self.finish, self.turns = number, listeners[number % len(listeners)], clock, finish, turns
-        self.connect_address, self.is_reader = listeners[(number + 1) % len(listeners)], self.address != listeners[0]
+        listeners = [server.address, *([server.readers] if "--readers" in server.process.args else [])]
+        self.address, self.connect_address = (listeners[it % len(listeners)] for it in (number, number + 1))
+        self.number, self.server, self.clock, self.finish, self.turns = number, server, clock, finish, turns
         # A silent client gets no events, and rests.
-        self.is_silent, self.random, self.count, self.seen, self.wrong = number % 4 == 0, random.Random(number), 0, {}, None
+        self.is_silent, self.is_reader, self.random = number % 4 == 0, self.address != server.address, random.Random(number)
         # The mark of the held connect, or `None`.
-        self.held, self.id, self.acknowledged, self.is_unknown = None, "0" * 48, 0, False
+        self.count, self.seen, self.wrong, self.held = 0, {}, None, None
+        self.id, self.acknowledged, self.is_unknown = "0" * 48, 0, False
 
     def run(self):
         try:
@@ -109,8 +96,10 @@ class Client(threading.Thread):
             self.random.choice(CHOICES)(self)
             self.take()
             if self.is_silent and self.clock.seconds < RESTS * turn / self.turns:
-                self.rest()
-        self.finish.wait(2 * TIMEOUT_SECONDS)
+                # The session expires.
+                self.take_held()
+                self.clock.tick(10 * SILENT + 5)
+        self.finish.wait()
         # No message follows that could answer these connects, so only ticks do.
         self.take_held()
         self.connect()
@@ -126,13 +115,17 @@ class Client(threading.Thread):
         self.count += 1
         return f"q-{self.number}-{self.count}-"
 
+    def send(self, request):
+        """Sends a request, and returns the response."""
+        self.requests.renew()
+        self.requests.send(request)
+        return self.requests.response()
+
     def ask(self, messages, way=None):
         """Sends `messages`, and returns the response. `way`: how to send them, by default at random."""
         mark = self.mark()
         messages = [{**messages[0], "id": mark}, *messages[1:]]
-        self.requests.renew()
-        self.requests.send((way or self.random.choice(WAYS))(json.dumps(messages, ensure_ascii=False).encode()))
-        response = self.keep(mark, self.requests.response())
+        response = self.keep(mark, self.send((way or self.random.choice(WAYS))(json.dumps(messages, ensure_ascii=False).encode())))
         is_forbidden = self.is_reader and any(not it["channel"].startswith(("/meta/", "/service/")) for it in messages)
         # A daemon answers with 503 if its window is full.
         assert response.status in (403 if is_forbidden else 200, 503), messages
@@ -154,13 +147,13 @@ class Client(threading.Thread):
         self.ask([{"channel": channel, "data": self.random.choice(DATA), "clientId": self.id} for _ in range(self.random.randint(1, BATCH))])
 
     def connect(self):
-        """Sends a connect on the second connection, unless one is held there."""
+        """Sends a connect on the second connection, unless one is held there. It acknowledges the last batch, nothing, or the one before."""
         self.take()
         if self.held:
             return
         self.held = self.mark()
         message = {**CONNECT, "clientId": self.id, "id": self.held}
-        acknowledged = self.random.choice(ACKNOWLEDGED)(self.acknowledged)
+        acknowledged = self.random.choice([self.acknowledged] * 3 + [None] * 2 + [max(self.acknowledged - 1, 0)])
         if acknowledged is not None:
             message["ext"] = {"ack": acknowledged}
         if self.random.random() < 0.3:
@@ -168,24 +161,22 @@ class Client(threading.Thread):
         self.connects.renew()
         self.connects.send(self.random.choice(WAYS)(json.dumps([message]).encode()))
 
-    def take(self, seconds=0.0):
-        """Reads the response to the held connect, if it arrives within `seconds` seconds."""
-        if not self.held or not select.select([self.connects.socket], [], [], seconds)[0]:
+    def take(self):
+        """Reads the response to the held connect, if it has arrived."""
+        if not self.held or not select.select([self.connects.socket], [], [], 0)[0]:
             return
         response, self.held = self.keep(self.held, self.connects.response()), None
         if response.status == 200 and not response.body.startswith(CALLBACK):
             self.acknowledged = response.items()[-1].get("ext", {}).get("ack", self.acknowledged)
 
     def take_held(self):
-        """Puts the clock forward until the held connect has its response."""
+        """Puts the clock forward until the held connect has its response, and no further."""
         while self.held:
-            self.clock.tick()
-            self.take(0.05)
-
-    def rest(self):
-        """Lets the session expire."""
-        self.take_held()
-        self.clock.tick(10 * SILENT + 5)
+            with self.clock.lock:
+                self.take()
+                if self.held:
+                    self.clock.tick()
+                    self.server.wait_for_rest()
 
     def repeat(self):
         """Gets a batch, acknowledges nothing, and so gets the batch again."""
@@ -204,15 +195,11 @@ class Client(threading.Thread):
     def refuse_whole(self):
         """Sends a request that is rejected as a whole."""
         mark = self.mark()
-        self.requests.renew()
-        self.requests.send(post(b'[{"channel":"/a","data":1,"id":"%s"},' % mark.encode()))
-        self.keep(mark, self.requests.response())
+        self.keep(mark, self.send(post(b'[{"channel":"/a","data":1,"id":"%s"},' % mark.encode())))
 
     def ask_nothing(self):
         """Sends a request without messages."""
-        self.requests.renew()
-        self.requests.send(post(b"[]"))
-        assert self.requests.response().body == b"[]"
+        assert self.send(post(b"[]")).body == b"[]"
 
     def leave(self):
         """Sometimes ends the session, and sometimes opens another one."""
@@ -263,9 +250,8 @@ def test_responses_are_those_of_the_replay(daemon, ticks, tmp_path, replay_progr
     path = tmp_path / "record"
     server = daemon("--record", str(path), "--record-answers", *EXPIRING, *flags, env=ticks.env)
     assert stat.S_IMODE(path.stat().st_mode) == 0o600, "not its owner's alone"
-    listeners = [server.address, *([server.readers] if "--readers" in flags else [])]
     finish = threading.Barrier(CLIENTS)
-    clients = [Client(number, listeners, ticks, finish, turns) for number in range(CLIENTS)]
+    clients = [Client(number, server, ticks, finish, turns) for number in range(CLIENTS)]
     with Check(replay_program, path, "--follow") as follows:
         for it in clients:
             it.start()
@@ -280,14 +266,6 @@ def test_responses_are_those_of_the_replay(daemon, ticks, tmp_path, replay_progr
     assert compared >= sum(it.count for it in clients) / 3
     with Check(replay_program, path) as check:
         assert check.end() >= compared
-
-
-def test_record_of_a_file_that_exists_is_not_made(program, tmp_path):
-    path = tmp_path / "record"
-    path.write_bytes(b"kept")
-    status, _, errors = run(program, [*ANYWHERE, "--record", str(path)])
-    assert status == 1 and f"bayeuxd: cannot create the record at {path}: " in errors
-    assert path.read_bytes() == b"kept"
 
 
 @pytest.fixture

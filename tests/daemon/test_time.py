@@ -12,8 +12,8 @@ CHANNEL = "/time"
 LIVE, SHARDS = 17, 16
 # After how many ticks an answer that nobody takes is dropped: a second if there are more than --sessions, otherwise a minute.
 CROWDED, KEPT = 10, 600
-# The number of answers of a megabyte each.
-LARGE = 32
+# The number of large answers, and their bytes.
+LARGE, BYTES = 32, 200_000
 # How far the clocks are put forward, in seconds: fifty days, which are more than 2^32 milliseconds. By how many seconds an age or an
 # uptime may differ on a slow machine.
 AHEAD, AGES = 50 * 86_400, 3600
@@ -92,7 +92,7 @@ def test_answer_that_nobody_takes_is_kept_for_a_minute(daemon, client, ticks):
 
 def test_memory_of_dropped_answers_is_used_again(daemon, client, ticks):
     server = daemon("--shards", "4", env={**ticks.env, **OWN_PAGES})
-    sessions, events = open_subscribed(server, client, LARGE), [(f"/large/{it}", "x" * 1_000_000) for it in range(LARGE)]
+    sessions, events = open_subscribed(server, client, LARGE), [(f"/large/{it}", "x" * BYTES) for it in range(LARGE)]
     with client(server) as connection:
         for session, (channel, _) in zip(sessions, events):
             subscribe(connection, channel, session)
@@ -105,7 +105,7 @@ def test_memory_of_dropped_answers_is_used_again(daemon, client, ticks):
         taken.append(server.kilobytes() - before)
         ticks.tick(KEPT)
         server.expect({FILED: 0}, pause=ticks.tick)
-    assert taken[0] * 1024 >= LARGE * 1_000_000, "the answers are not kept"
+    assert taken[0] * 1024 >= LARGE * BYTES, "the answers are not kept"
     assert taken[1] <= 1.5 * taken[0]
 
 
@@ -140,8 +140,9 @@ def test_silent_session_expires_after_the_interval(daemon, client, ticks):
 
 
 def moments_of(record):
-    """Returns the moments of the lines of a record, in milliseconds."""
-    return [int(it.partition(b" ")[0]) for it in record.read_bytes().splitlines()[1:]]
+    """Returns the moment of each complete line of a record, in milliseconds, and the rest of the line."""
+    lines = [it.partition(b" ") for it in record.read_bytes().split(b"\n")[1:-1]]
+    return [(int(moment), rest) for moment, _, rest in lines]
 
 
 def test_moments_have_more_than_32_bits_after_fifty_days(daemon, client, clock_ahead, tmp_path):
@@ -170,22 +171,26 @@ def test_moments_have_more_than_32_bits_after_fifty_days(daemon, client, clock_a
     server.close()
     assert len(ages) == len(held) + 1 and max(ages) <= AGES
     assert AHEAD <= uptime <= AHEAD + AGES
-    moments = moments_of(record)
+    moments = [moment for moment, _ in moments_of(record)]
     early = [it for it in moments if it <= 1000 * AGES]
     late = [it for it in moments if 1000 * AHEAD <= it <= 1000 * (AHEAD + AGES)]
     assert early and len(late) >= 6 and moments == early + late
 
 
-@pytest.mark.alone
 def test_ticks_are_a_tenth_of_a_second_apart(daemon, tmp_path):
-    """In real time: a busy machine has longer pauses, but rarely only those."""
+    """In real time. A busy machine has longer pauses, but not only those."""
     record = tmp_path / "record"
     server = daemon("--record", str(record))
-    wait_until("twenty ticks", lambda: server.scrape()[TICKED] >= 20)
+
+    def pauses():
+        """Returns the milliseconds between two ticks each so far."""
+        moments = [moment for moment, line in moments_of(record) if line == b"T"]
+        return [later - earlier for earlier, later in zip(moments, moments[1:])]
+
+    wait_until("twenty ticks, two of them a tenth of a second apart", lambda: len(pauses()) >= 20 and min(pauses()) < 115)
     begun, page = time.monotonic(), server.scrape()
     server.close()
     more = 10 * (time.monotonic() - begun) + 1
-    moments = [int(it.partition(b" ")[0]) for it in record.read_bytes().splitlines() if it.endswith(b" T")]
-    assert 100 <= min(later - earlier for earlier, later in zip(moments, moments[1:])) < 115
-    assert page[TICKED] <= len(moments) <= page[TICKED] + more
-    assert 1 <= page[UPTIME] <= moments[-1] // 1000
+    assert min(pauses()) >= 100
+    assert page[TICKED] <= len(pauses()) + 1 <= page[TICKED] + more
+    assert 1 <= page[UPTIME] <= moments_of(record)[-1][0] // 1000

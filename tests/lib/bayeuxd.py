@@ -32,9 +32,10 @@ class Bayeuxd(Daemon):
         self.status = 0
 
     def wait(self):
-        """Waits until the daemon listens, and reads its address."""
+        """Waits until the daemon listens and all its threads have started, and reads its address."""
         assert select.select([self.process.stdout], [], [], TIMEOUT_SECONDS)[0], "the daemon does not listen"
         super().wait()
+        self.wait_for_rest()
 
     @functools.cached_property
     def metrics(self):

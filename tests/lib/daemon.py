@@ -2,6 +2,7 @@
 import contextlib
 import ctypes
 import datetime
+import fcntl
 import json
 import os
 import pathlib
@@ -9,8 +10,11 @@ import re
 import resource
 import select
 import socket
+import struct
 import subprocess
 import tempfile
+import termios
+import time
 import urllib.parse
 
 from base import TIMEOUT_SECONDS, end, wait_until
@@ -22,8 +26,11 @@ MOST_MESSAGES, AT_ONCE = 256, 200
 # The number of the system call `pidfd_getfd`, for which Python has no function.
 PIDFD_GETFD = 438
 NO_SOCKETS = "the system does not show the sockets of other processes"
-# With this environment, each body or event of a megabyte has pages of its own, which the system gets back once it is freed.
-OWN_PAGES = {"MALLOC_MMAP_THRESHOLD_": "65536"}
+# With this environment, each large body or event has pages of its own, which the system gets back once it is freed, and all threads
+# have the other memory in common. So the resident memory does not depend on which thread served a request.
+OWN_PAGES = {"MALLOC_MMAP_THRESHOLD_": "65536", "MALLOC_ARENA_MAX": "1"}
+# For how long the processor time of a daemon is measured, in seconds.
+MOMENT = 1.0
 FORM = b"application/x-www-form-urlencoded"
 CONNECT = {"channel": "/meta/connect", "connectionType": "long-polling"}
 HANDSHAKE = {"channel": "/meta/handshake", "version": "1.0", "supportedConnectionTypes": ["long-polling"]}
@@ -143,15 +150,28 @@ class Daemon:
         """Returns the threads of the process, as a set of their numbers in decimal."""
         return set(os.listdir(f"/proc/{self.process.pid}/task"))
 
-    def running_threads(self):
-        """Returns the threads of the process that run, or wait for a processor."""
-        found = set()
-        for it in self.threads():
-            path = f"/proc/{self.process.pid}/task/{it}/stat"
-            with contextlib.suppress(FileNotFoundError, ProcessLookupError), open(path, encoding="utf-8", errors="replace") as text:
-                if text.read().rpartition(")")[2].split()[0] == "R":
-                    found.add(it)
-        return found
+    def is_waiting(self, thread):
+        """Returns whether a thread of the process waits. Otherwise it runs, or needs a processor."""
+        with contextlib.suppress(FileNotFoundError, ProcessLookupError):
+            text = pathlib.Path(f"/proc/{self.process.pid}/task/{thread}/stat").read_text(encoding="utf-8", errors="replace")
+            return text.rpartition(")")[2].split()[0] != "R"
+        return True
+
+    def wait_for_rest(self):
+        """Waits until each thread has waited several times, so that the process has done what was asked of it before."""
+        for _ in range(4):
+            for thread in self.threads():
+                wait_until("a thread waits", lambda thread=thread: self.is_waiting(thread), pause=0.001)
+
+    def wait_until_idle(self, what):
+        """Waits until the process uses at most a tenth of a processor for a moment. `what`: what it waits for."""
+
+        def is_idle():
+            begun, before = time.monotonic(), self.processor_seconds()
+            time.sleep(MOMENT)
+            return self.processor_seconds() - before <= (time.monotonic() - begun) / 10
+
+        wait_until(f"the daemon takes little processor time while it waits for {what}", is_idle)
 
     def processor_seconds(self):
         """Returns the processor time that the process has used so far, in seconds."""
@@ -231,6 +251,20 @@ class Connection:
             raise AssertionError("nothing is taken any more") from error
         except OSError as error:
             raise ConnectionEnded(f"ended while it was sent to: {error}") from error
+
+    def unread_bytes(self):
+        """Returns how many of the bytes that were sent the daemon has not read yet. Returns 0 if the connection has ended."""
+        (on_the_way,) = struct.unpack("i", fcntl.ioctl(self.socket, termios.TIOCOUTQ, bytes(4)))
+        own, other = (f":{it:04X}" for it in (self.socket.getsockname()[1], self.address[1]))
+        with open("/proc/net/tcp", encoding="ascii") as lines:
+            for _, local, remote, _, queues, *_ in map(str.split, lines):
+                if local.endswith(other) and remote.endswith(own):
+                    return on_the_way + int(queues.partition(":")[2], 16)
+        return 0
+
+    def wait_until_read(self):
+        """Waits until the daemon has read all that was sent."""
+        wait_until("the daemon has read what was sent", lambda: self.unread_bytes() == 0, pause=0.005)
 
     def receive(self):
         """Appends the next bytes to `input`. Returns `False` if the connection has ended."""

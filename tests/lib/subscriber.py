@@ -11,7 +11,8 @@ from daemon import CONNECT, HANDSHAKE, Connection, ConnectionEnded, expect_succe
 class Client(threading.Thread):
     """A client with a session, whose `work` runs in a thread until `is_over` is set.
 
-    `wrong`: the error that ended it, or `None`. Between two requests, `connection` is open or `None`.
+    `wrong`: the error that ended it, or `None`. `failed`: how many requests had no response, or a 503. Between two requests,
+    `connection` is open or `None`.
     """
 
     def __init__(self, address: tuple[str, int], **handshake) -> None:
@@ -19,6 +20,7 @@ class Client(threading.Thread):
         self.address, self.is_over = address, threading.Event()
         self.connection: Connection | None = None
         self.wrong: Exception | None = None
+        self.failed = 0
         self.session = {"clientId": expect_success(self.ask({**HANDSHAKE, **handshake}), 1)[0]["clientId"]}
 
     def work(self) -> None:
@@ -39,6 +41,7 @@ class Client(threading.Thread):
         except ConnectionEnded:
             items = None
         if items is None:
+            self.failed += 1
             self.close()
         return items
 

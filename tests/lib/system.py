@@ -19,18 +19,23 @@ class Clock:
 
     def __init__(self, folder, is_standing=False, has_ticks=False):
         """Makes the clocks. `folder`: a folder for the file that the library reads."""
-        self.path, self.seconds, self.lock = f"{folder}/clock", 0.0, threading.RLock()
+        self.path, self.milliseconds, self.lock = f"{folder}/clock", 0, threading.RLock()
         with open(self.path, "wb") as file:
             file.write(bytes(24))
         self.variables = {"CLOCK_FILE": self.path, **({"CLOCK_STANDS": "1"} if is_standing or has_ticks else {})}
         if has_ticks:
             self.variables["CLOCK_SLEEPS"] = "1"
 
+    @property
+    def seconds(self):
+        """By how many seconds the clocks were put forward."""
+        return self.milliseconds / 1000
+
     def add(self, seconds):
-        """Puts the clocks forward by `seconds`."""
+        """Puts the clocks forward by `seconds`, rounded to milliseconds."""
         with self.lock, open(self.path, "r+b") as file:
-            self.seconds += seconds
-            file.write(struct.pack("<q", round(self.seconds * 1000)))
+            self.milliseconds += round(seconds * 1000)
+            file.write(struct.pack("<q", self.milliseconds))
 
     def counts(self):
         """Returns how many sleeps of a tick or longer, and how many waits for events have begun."""

@@ -6,7 +6,6 @@ import pytest
 from base import wait_until
 from daemon import CONNECT, FORM, HANDSHAKE, SlowReader, expect_error, expect_success, open_session, poll, post, subscribe
 from metrics import CONNECTS_HELD, FILED, OPEN, REQUESTS_HELD
-from waiting import wait_for_reads, wait_until_idle
 
 # The flags: how many sessions there may be, how many bytes of events and how many events wait for each, and the bytes of a body.
 SESSIONS, BYTES, LIMIT, BODY = 500, 65536, 1024, 16384
@@ -78,7 +77,8 @@ def slow_connections(client, server):
     for number, connection in enumerate(found):
         body = b"POST /cometd HTTP/1.1\r\nhost: h\r\ncontent-length: %d\r\n\r\n" % BODY + b" " * (BODY - 100)
         connection.send(body if number % 2 else b"GET /cometd HTTP/1.1\r\nhost: h\r\nx: " + b"x" * 60_000)
-    wait_for_reads(*found)
+    for it in found:
+        it.wait_until_read()
     return found
 
 
@@ -117,7 +117,7 @@ def test_memory_is_at_most_what_the_page_says(daemon, client):
     slow = slow_connections(client, server)
     measure("connections")
     unread = unread_connections(client, server, filled[:UNREAD])
-    wait_until_idle("clients that read nothing", server)
+    server.wait_for_rest()
     measure("responses")
     for it in slow + unread:
         it.socket.close()
