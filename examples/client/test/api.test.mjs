@@ -31,8 +31,7 @@ describe('events', () => {
     client.addEventListener('gap', ({ since }) => log.push(['gap', since instanceof Date]));
     client.addEventListener('error', ({ error }) => log.push(['error', error.code, error.message]));
     await client.start();
-    await server.lose();
-    await until('it is connected again', () => log.at(-1)[1] === 'connected' && log.some(([kind]) => kind === 'gap'));
+    await server.renewed(() => server.lose());
     const all = (state, why = '', reply = undefined) => [`on ${state} ${why}`.trim(), ['one', state, why, reply], ['two', state, why, reply]];
     const lost = '402::Unknown client';
     assert.deepEqual(log, [...all('connecting'), ...all('connected'), ...all('interrupted', lost, 402), ['error', 'rejected', lost], 'on gap true', ['gap', true], ...all('connected')]);
@@ -55,21 +54,18 @@ describe('listeners that throw', () => {
     const fail = (text) => () => {
       throw new Error(text);
     };
-    Object.assign(client, { onstate: fail('onstate'), ongap: fail('ongap') });
-    client.addEventListener('state', fail('state'));
-    client.addEventListener('state', { handleEvent: fail('object') });
-    client.subscribe('/a', fail('listener'));
-    client.subscribe('/a', async () => fail('promise')());
     const removed = fail('removed');
-    client.addEventListener('state', removed);
+    Object.assign(client, { onstate: fail('onstate'), ongap: fail('ongap') });
+    for (const it of [fail('state'), { handleEvent: fail('object') }, removed]) client.addEventListener('state', it);
     client.removeEventListener('state', removed);
+    for (const it of [fail('listener'), async () => fail('promise')()]) client.subscribe('/a', it);
     await client.start();
     await server.renewed(() => server.lose());
+    const texts = () => printed.mock.calls.map(({ arguments: [{ message }] }) => message);
     server.emit(['/a', 1]);
-    await until('all are printed', () => printed.mock.calls.at(-1).arguments[0].message === 'promise');
+    await until('all are printed', () => texts().at(-1) === 'promise');
     const each = ['onstate', 'state', 'object'];
-    const expected = [...each, ...each, ...each, 'ongap', ...each, 'listener', 'promise'];
-    assert.deepEqual(printed.mock.calls.map(({ arguments: [{ message }] }) => message), expected);
+    assert.deepEqual(texts(), [...each, ...each, ...each, 'ongap', ...each, 'listener', 'promise']);
   });
 });
 
@@ -112,6 +108,11 @@ describe('errors', () => {
     server.next('/meta/subscribe', rejection('/meta/subscribe', '400::Invalid pattern'));
     const { code, pattern, reply } = await failureOf(client.subscribe('/a/**/b', () => {}));
     assert.deepEqual([code, pattern, reply], ['rejected', '/a/**/b', 400]);
+    // Without a connection, it has not arrived for sure.
+    server.close();
+    await until('it is interrupted', () => client.state === 'interrupted');
+    const [reason, text, mayHaveArrived] = await failed();
+    assert.deepEqual([reason, mayHaveArrived], ['network', false], text);
   });
 });
 
