@@ -1,7 +1,6 @@
 """What a daemon does as time passes: ticks, answers that nobody takes, ages, holds, expiry, and moments after fifty days."""
 import time
 
-
 from base import wait_until
 from daemon import OWN_PAGES, expect_error, expect_events, expect_success, hold_connect, open_session, poll, publish, send_connect, subscribe
 from metrics import CONNECTS_HELD, FILED, OPEN, REQUESTS_HELD, SESSIONS, SWEPT, TICKED, UPTIME, read_list
