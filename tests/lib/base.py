@@ -70,6 +70,17 @@ def wait_until(what, condition, seconds=TIMEOUT_SECONDS, pause=0.02):
         time.sleep(pause)
 
 
+def retry(check, tries):
+    """Calls `check` until it passes, at most `tries` times. Raises its last `CheckFailed` or `OSError` if it does not."""
+    for left in reversed(range(tries)):
+        try:
+            check()
+            return
+        except (CheckFailed, OSError):
+            if not left:
+                raise
+
+
 def make_program(path, text):
     """Makes a shell script with the text `text`, and returns its path."""
     path = pathlib.Path(path)
