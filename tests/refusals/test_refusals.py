@@ -27,11 +27,6 @@ class Run(NamedTuple):
 
 
 @pytest.fixture(scope="module")
-def refusing_library(tmp_path_factory: pytest.TempPathFactory) -> str:
-    return compile_library("tests/refusals/refuse.c", tmp_path_factory.mktemp("refuse"))
-
-
-@pytest.fixture
 def program(pytestconfig: pytest.Config, skip) -> str:
     """The path of bx_refusals, which the prover has built. Skips the test without it."""
     if pytestconfig.getoption("--program") != "proved":
@@ -41,6 +36,11 @@ def program(pytestconfig: pytest.Config, skip) -> str:
     if not has_compiler():
         skip("refusals", "there is no C compiler")
     return PROGRAM
+
+
+@pytest.fixture(scope="module")
+def refusing_library(program: str, tmp_path_factory: pytest.TempPathFactory) -> str:
+    return compile_library("tests/refusals/refuse.c", tmp_path_factory.mktemp("refuse"))
 
 
 def run(args: list[str], library: str, call: int, folder: Path) -> Run:
