@@ -209,8 +209,7 @@ def only_proved(request):
 def daemon(program, tmp_path, request):
     """Starts daemons: `daemon(*flags, **how)` returns a `Bayeuxd` that listens, unless `waits` is false. They end with the test.
 
-    Their logs are in `tmp_path`, and in the report of a test that fails. A daemon must not have ended by itself with another
-    status than its `status`, which is 0 at first.
+    Their logs are in `tmp_path`, and in the report of a test that fails. One that ended by itself must have its `status`, by default 0.
     """
     daemons = request.node.stash.setdefault(DAEMONS, [])
 
@@ -228,9 +227,9 @@ def daemon(program, tmp_path, request):
 
 @pytest.fixture
 def client():
-    """Connects clients: `client(target)` returns a `Connection` to a daemon's main listener, or to an address.
+    """Connects clients until the test ends: `client(target)` returns a `Connection` to a daemon, or to an address.
 
-    The connections end with the test. Further arguments are those of the connection's class `kind`.
+    Further arguments are those of the connection's class `kind`.
     """
     with contextlib.ExitStack() as stack:
 
@@ -281,10 +280,7 @@ def clock_ahead(system, tmp_path):
 
 @pytest.fixture
 def nginx(tmp_path):
-    """Starts nginx with packaging/nginx/nginx.conf: `nginx(port, changes)` returns its address. `port`: that of the server behind it.
-
-    `changes`: new texts by old texts of the configuration.
-    """
+    """Starts nginx in front of a port: `nginx(port, changes)` returns its address. `changes`: new texts by old texts of nginx.conf."""
     missing = [it for it in ("nginx", "openssl", "curl") if not shutil.which(it)]
     if missing:
         pytest.skip(f"there is no {missing[0]}")

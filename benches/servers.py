@@ -4,6 +4,7 @@ import glob
 import os
 import subprocess
 import sys
+import tempfile
 
 from base import TOP, CheckFailed
 from daemon import SEED, Daemon
@@ -24,7 +25,8 @@ class ServerProcess(Daemon):
 
     def begin(self, args, **streams):
         """Starts the process and waits until it listens. If that fails, ends the process and raises the exception again."""
-        self.start(args, **streams)
+        self.errors = tempfile.TemporaryFile()
+        self.process = subprocess.Popen(args, stdout=subprocess.PIPE, stderr=self.errors, start_new_session=True, **streams)
         try:
             self.wait()
         except BaseException:
@@ -41,7 +43,6 @@ class Server(ServerProcess):
         `name`: "bare" for the bare server. `processors`: those that it may use, as taskset takes them, or `None` for all.
         `connections`: the number of connections after which it ends, or 0 for never.
         """
-        # pylint: disable=super-init-not-called
         first = ["taskset", "-c", processors] if processors else []
         args = [] if name == "bare" else ["4", "30000", "0", "10000", SEED]
         self.begin([*first, program, "127.0.0.1:0", *args, str(connections)], **streams)

@@ -14,7 +14,8 @@ from pathlib import Path
 
 import pytest
 import repository
-from base import TOP, read, section
+from base import TOP, read, section, tracked
+from documented import FLAGS
 
 pytestmark = pytest.mark.xdist_group("documents")
 
@@ -54,13 +55,6 @@ IDLE_SECTION = re.compile(r"# Errors `AllocError` if memory runs out(?:; nothing
 NO_PRODUCTS = re.compile(r"crates/(?:\w+_tests|bx_(?:bench|calls|gates|http_runs|refusals|testkit))/")
 DOC_COMMENT = re.compile(r"((?:^ *///.*\n)+)(?: *#\[.*\n)* *(?:pub(?:\([a-z]+\))? )?(?:unsafe )?(?:const )?fn ", re.MULTILINE)
 SENTENCE_END = re.compile(r"(?<=[.!?])\s+(?=[A-Z`*\[])")
-
-
-@functools.cache
-def tracked() -> list[str]:
-    """Returns the paths of the files that Git has or would add, from the top on."""
-    result = subprocess.run(["git", "ls-files", "-co", "--exclude-standard"], cwd=TOP, check=True, stdout=subprocess.PIPE, text=True)
-    return [it for it in result.stdout.splitlines() if (TOP / it).exists()]
 
 
 def sources() -> list[Path]:
@@ -189,57 +183,21 @@ def test_each_benchmark_has_a_help(path: str) -> None:
     assert (result.returncode, result.stderr) == (0, "") and path in result.stdout
 
 
-@functools.cache
-def daemon_flags() -> frozenset[str]:
-    """Returns the flags of `bayeuxd` without `--help` and `--version`. Those of limits are in another crate."""
-    flags = re.findall(r'\b(?:value|switch)\(\s*alloc,\s*"([a-z-]+)"', read("crates/bx_settings/src/flags.rt"))
-    limits = re.findall(r'Limit::\w+ => "([a-z-]+)"', read("crates/bx_advice/src/limit.rt"))
-    assert flags and limits
-    return frozenset(f"--{it}" for it in [*flags, *limits])
+def manual_entry(name: str) -> str:
+    """Returns what the manual page of `bayeuxd` says of a flag, as plain text on one line. Tests of the daemon check CONFIGURE."""
+    options = read("packaging/bayeuxd.8").partition("\n.SH OPTIONS\n")[2].replace("\\-", "-")
+    return re.sub(r"\n(?:\.[BI]+R?I? )?", " ", options).partition(f" --{name} ")[2].partition(" .TP ")[0]
 
 
-def limits() -> dict[str, tuple[str, str]]:
-    """Returns the default and the greatest value of each limit in the sources, by the name of its flag."""
-    text = read("crates/bx_advice/src/limit.rt").replace("_", "")
-    standard = dict(re.findall(r"^    (\w+): (\d+),$", text, re.MULTILINE))
-    constants = dict(re.findall(r"pub const (\w+): usize = (\d+);", text))
-    found = {"body": (constants["BODYLIMIT"], constants["BODYLIMIT"]), "shards": ("one per processor", constants["MAXSHARDS"])}
-    for variant, name in re.findall(r'Limit::(\w+) => "(\w+)"', text):
-        greatest, field = (re.search(rf"Limit::{variant} => {it}(\w+),", text) for it in ("", r"self\."))
-        assert greatest and field
-        default = standard[field[1]]
-        found[name] = (default if int(default) <= int(greatest[1]) else "no limit", greatest[1])
-    assert len(found) >= 6
-    return found
-
-
-def manual_options() -> str:
-    """Returns the options of the manual page of `bayeuxd` as plain text on one line."""
-    return re.sub(r"\n(?:\.[BI]+R?I? )?", " ", read("packaging/bayeuxd.8").partition("\n.SH OPTIONS\n")[2].replace("\\-", "-"))
-
-
-@pytest.mark.parametrize("page", ["docs/CONFIGURE.md", "packaging/bayeuxd.8"])
-def test_page_has_each_flag_of_the_daemon(page: str) -> None:
-    assert [it for it in sorted(daemon_flags()) if it not in read(page).replace("\\-", "-")] == []
-
-
-@pytest.mark.parametrize("name, values", limits().items(), ids=list(limits()))
-def test_range_and_default_of_a_limit(name: str, values: tuple[str, str]) -> None:
-    default, greatest = values
-    assert f"\n- `--{name} N` ({default}; 1 to {greatest}): " in read("docs/CONFIGURE.md")
-    entry = read("packaging/bayeuxd.8").replace("\n", " ").partition(f"\\-\\-{name} ")[2].partition(" .TP")[0]
-    assert f"from 1 to {greatest}" in entry
-    assert f"The default is {default.replace('one per', 'one shard per')}" in entry
-
-
-def test_manual_page_has_the_defaults_of_configure() -> None:
-    pattern = r"^- `--([a-z-]+) [A-Z]+` \(`([^`]+)`|^- `--([a-z-]+) N` \((0): "
-    found = [[it for it in groups if it] for groups in re.findall(pattern, section("docs/CONFIGURE.md", "Flags"), re.MULTILINE)]
-    assert len(found) >= 7
-    for name, default in found:
-        entry = manual_options().partition(f" --{name} ")[2].partition(" .TP ")[0]
-        ways = (f"The default is {default}", f"The default, {default},", f"{default} (the default)", rf"( {default} , the default)")
-        assert any(way in entry for way in ways), f"--{name} {default}: {entry}"
+@pytest.mark.parametrize("name", FLAGS)
+def test_manual_page_has_the_default_and_the_range_of_configure(name: str) -> None:
+    argument, default, greatest, _ = FLAGS[name]
+    entry = manual_entry(name)
+    assert entry
+    assert f"from 1 to {greatest}" in entry or not greatest
+    default = {"one per processor": "one shard per processor", "a random seed": "system generates a random seed"}.get(default, default)
+    ways = (f"The default is {default}", f"The default, {default},", f"{default} (the default)", f"By default, the {default}")
+    assert not argument or default in ("off", "none") or any(way in entry for way in ways), entry
 
 
 @pytest.mark.parametrize("page", sorted(it.name for it in (TOP / "packaging").glob("*.[18]")))
@@ -247,10 +205,17 @@ def test_manual_page_has_no_placeholder(page: str) -> None:
     assert re.findall(r"@[A-Z]+@", read(f"packaging/{page}")) == []
 
 
+@pytest.mark.parametrize("page, script", [("bayeux_record.1", "scripts/replay_record"), ("gadzilk-setup.8", "packaging/gadzilk-setup")])
+def test_manual_page_has_the_options_of_the_help(page: str, script: str) -> None:
+    text = subprocess.run([TOP / script, "--help"], check=True, stdout=subprocess.PIPE, text=True).stdout
+    titles = re.findall(r"^\.TP\n(.*)", read(f"packaging/{page}").replace("\\-", "-"), re.MULTILINE)
+    assert {*FLAG.findall(" ".join(titles))} == {*FLAG.findall(text)} != set()
+
+
 def completions() -> Iterator[tuple[list[str], set[str]]]:
     """Yields the words of command lines, and what bash must complete for the last one."""
     commands = set(re.findall(r"^  (\w+) ", read("bayeux").partition("<<'TEXT'")[2].partition("\nTEXT")[0], re.MULTILINE))
-    of_daemon = {*daemon_flags(), "--help", "--version"}
+    of_daemon = {f"--{it}" for it in [*FLAGS, "help", "version"]}
     choices, of_replay = {"--proved", "--release"}, {f"--{it}" for it in ("record", "bytes", "sessions", "patterns")}
     of_record = {f"--{it}" for it in ("record", "client", "check", "follow", "idle", "help")}
     of_files = re.findall(r"^- `(--[a-z-]+) FILE`", read("docs/CONFIGURE.md"), re.MULTILINE)
@@ -293,6 +258,8 @@ def test_default_settings_are_those_of_operating() -> None:
     text = read("packaging/bayeuxd.default")
     assert shlex.split(text, comments=True) == []
     assert dict(it.partition("=")[::2] for it in shlex.split(text.replace("\n#BAYEUXD_", "\nBAYEUXD_"), comments=True)) == wanted
+    pages = "".join(read(f"docs/{it}.md").replace('", "', " ") for it in ("OPERATING", "SECURITY"))
+    assert {*re.findall(r"--body \d+(?: --(?!listen)[a-z]+ \d+)*", pages)} == {documented_options()}
 
 
 def test_image_starts_with_the_flags_of_operating() -> None:
@@ -338,7 +305,7 @@ def squeezed(lines: list[str]) -> str:
 
 
 def test_comments_are_narrow() -> None:
-    files = [*((it, "//") for it in sources()), *((it, "--") for it in TOP.glob("crates/*/*/**/*.antt") if "must-fail" not in it.parts)]
+    files = [*((it, "//") for it in sources()), *((it, "--") for it in TOP.glob("crates/*/*/**/*.antt") if not {"must-fail", "out"} & {*it.parts})]
     wide = [
         f"{path.relative_to(TOP)}:{number}"
         for path, mark in files

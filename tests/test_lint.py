@@ -6,7 +6,7 @@ import subprocess
 from typing import Any
 
 import pytest
-from base import TOP
+from base import TOP, tracked
 
 PYTHON = re.compile(r"#!.*\bpython3\b")
 SHELL = re.compile(r"#!/(?:usr/bin/env |bin/)(?:ba|da)?sh\b")
@@ -15,13 +15,7 @@ SHELL = re.compile(r"#!/(?:usr/bin/env |bin/)(?:ba|da)?sh\b")
 @functools.cache
 def files() -> dict[str, str]:
     """Returns the path and the first line of each text file that Git has or would add."""
-    paths = subprocess.run(["git", "ls-files", "-co", "--exclude-standard"], cwd=TOP, check=True, stdout=subprocess.PIPE, text=True).stdout
-    found = {}
-    for path in paths.splitlines():
-        if (TOP / path).is_file():
-            with open(TOP / path, "rb") as file:
-                found[path] = file.readline(200).decode(errors="replace")
-    return found
+    return {it: (TOP / it).read_bytes().partition(b"\n")[0].decode(errors="replace") for it in tracked()}
 
 
 def expect_nothing(tool: str, package: str, *args: str) -> None:

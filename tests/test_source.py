@@ -3,7 +3,6 @@
 Most wrong bodies that no other test refuses do something wrong from a size on that no test reaches, such as a report of a lack of
 memory for more than 8,192 events. These checks refuse such a size, and such a report.
 """
-import os
 import re
 from collections.abc import Iterator
 
@@ -19,6 +18,7 @@ pytestmark = pytest.mark.xdist_group("source")
 
 # Crates of tests and measurements.
 NO_PRODUCTS = re.compile(r".*_tests|bx_(refusals|http_runs|calls|gates|bench)")
+OF_TESTS = re.compile(r"/(\w+_)?tests(\.rt$|/)")
 
 # Numbers up to this one, and shifts by fewer bits, need no name.
 SMALL, BITS = 64, 6
@@ -79,6 +79,8 @@ FAULTS = (
 OPERATIONS = {"+": int.__add__, "*": int.__mul__, "<<": int.__lshift__}
 SHIFTS = ("<<", ">>", "<<=", ">>=")
 NARROW = ("u8", "u16", "u32", "i8", "i16", "i32")
+# Calls that leak memory.
+LEAK = re.compile(r"\b(?:ManuallyDrop|leak|into_raw|mem :: (?:\{[^}]*)?\bforget)\b")
 # Words whose heads have only types and patterns.
 DECLARATIONS = ("use", "impl", "fn", "struct", "enum", "type")
 
@@ -87,8 +89,8 @@ DECLARATIONS = ("use", "impl", "fn", "struct", "enum", "type")
 def read_products() -> dict[str, list[Item]]:
     """The items of each source of a product, by its path from `crates/` on."""
     crates = [it for it in repository.dependencies() if not NO_PRODUCTS.fullmatch(it)]
-    paths = [it for crate in crates for it in rattle.sources(f"{TOP}/crates/{crate}")]
-    return {os.path.relpath(it, f"{TOP}/crates"): rattle.read(it) for it in paths}
+    paths = [str(it.relative_to(TOP / "crates")) for crate in crates for it in TOP.glob(f"crates/{crate}/src/**/*.rt")]
+    return {it: rattle.read(f"{TOP}/crates/{it}") for it in sorted(paths) if not OF_TESTS.search(it)}
 
 
 def rows(table: tuple) -> set[tuple[str, str]]:
@@ -210,16 +212,6 @@ def faults_made(items: list[Item], why: str = "", is_failed: bool = False) -> It
             yield it.line, it.text, why
 
 
-def leaks(items: list[Item]) -> Iterator[tuple[int, str]]:
-    """Yields the line and the name of each call that leaks memory."""
-    for at, it in enumerate(items):
-        is_mem = [other.text for other in items[max(at - 2, 0) : at]] == ["mem", "::"]
-        if it.text in ("ManuallyDrop", "leak", "into_raw") or is_mem and "forget" in rattle.flat([it]).split():
-            yield it.line, it.text
-        if isinstance(it, Group):
-            yield from leaks(it.items)
-
-
 def has_comment(path: str, name: str) -> bool:
     """Returns `True` if a comment is above the constant `name` of a file."""
     with open(f"{TOP}/crates/{path}", encoding="utf-8") as file:
@@ -253,4 +245,4 @@ def test_faults_come_from_calls_that_failed(products):
 
 
 def test_nothing_leaks(products):
-    assert [f"crates/{path}:{line}: {name}" for path, items in products.items() for line, name in leaks(items)] == []
+    assert [(path, it[0]) for path, items in products.items() for it in LEAK.finditer(rattle.flat(items))] == []

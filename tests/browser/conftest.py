@@ -1,4 +1,4 @@
-"""What tests in Chromium share: a browser for each worker, its windows, a server behind a relay, and a web server."""
+"""What tests in Chromium share: a browser for each worker, its windows, and a server behind a relay and nginx."""
 from __future__ import annotations
 
 import contextlib
@@ -7,12 +7,18 @@ from typing import Callable, Iterator
 
 import pytest
 
-from browser import Browser, Window, missing_package
+from browser import Browser, Window, browsing
 from daemon import Connection, HANDSHAKE
 from pages import Chat
-from website import Relay, Site
+from relay import Relay
 
 WINDOWS = pytest.StashKey[list]()
+# A blank page that has the client as a script, in front of the location of all pages.
+BLANK = """location = /blank {
+    default_type text/html;
+    return 200 '<!DOCTYPE html><link rel="icon" href="data:,"><script src="/client/bayeux.js"></script>';
+}
+location / {"""
 
 
 def pytest_collection_modifyitems(items: list[pytest.Item]) -> None:
@@ -37,13 +43,10 @@ def pytest_runtest_makereport(item: pytest.Item, call: pytest.CallInfo) -> Itera
 
 
 @pytest.fixture(scope="session")
-def browser(tmp_path_factory: pytest.TempPathFactory) -> Iterator[Browser]:
+def browser() -> Iterator[Browser]:
     """A headless Chromium. Skips the test if a package is missing."""
-    if missing_package():
-        pytest.skip(f"needs Debian's package {missing_package()}")
-    browser = Browser(tmp_path_factory.mktemp("browser"))
-    yield browser
-    browser.end()
+    with browsing() as browser:
+        yield browser
 
 
 class Server:
@@ -58,13 +61,10 @@ class Server:
         self.daemon = self.start_daemon(*flags)
         self.relay.target = self.daemon.address
 
-    def kill(self) -> None:
-        """Kills the daemon, and all connections to it."""
+    def restart(self, *flags: str) -> None:
+        """Kills the daemon, and all connections to it, and starts another one."""
         self.daemon.kill()
         self.relay.cut()
-
-    def restart(self, *flags: str) -> None:
-        self.kill()
         self.start(*flags)
 
     def ask(self, *messages: dict) -> list[dict]:
@@ -93,13 +93,6 @@ def server(browser: Browser, daemon: Callable) -> Iterator[Server]:
 
 
 @pytest.fixture
-def site(server: Server) -> Iterator[Site]:
-    """A web server for the pages, with `server` at /cometd."""
-    with contextlib.closing(Site(server.relay.port)) as site:
-        yield site
-
-
-@pytest.fixture
 def windows(browser: Browser, request: pytest.FixtureRequest) -> Iterator[Callable]:
     """Keeps a window until the test ends: `windows(window)`, which returns it.
 
@@ -122,6 +115,13 @@ def windows(browser: Browser, request: pytest.FixtureRequest) -> Iterator[Callab
 def window(browser: Browser, windows: Callable) -> Callable[..., Window]:
     """Opens windows: `window(address)`. They are closed after the test."""
     return lambda *arguments: windows(Window(browser, *arguments))
+
+
+@pytest.fixture
+def blank(server: Server, nginx: Callable, window: Callable) -> Callable[[], Window]:
+    """Opens windows of a blank page: `blank()`. With HTTP/1.1, Chromium has six connections to nginx, which passes them to `server`."""
+    address = nginx(server.relay.port, {" http2": "", "location / {": BLANK})
+    return lambda: window(f"{address}/blank")
 
 
 @pytest.fixture

@@ -1,4 +1,4 @@
-"""Users who leave a page and return with Back, and pages without a network, hidden, or frozen."""
+"""Users who leave a page and return with Back, and pages that are hidden or frozen."""
 from __future__ import annotations
 
 import time
@@ -7,55 +7,35 @@ import pytest
 
 from base import wait_until
 from browser import Window
+from metrics import CONNECTS_HELD
 from pages import Client
 
-# After a failure, this client does not try again before the network returns. Pauses are in milliseconds.
-PATIENT = {"minPause": 1e6, "maxPause": 1e6}
 
-
-def set_network(page: Window, is_offline: bool) -> None:
-    page.command("Network.enable")
-    page.command("Network.emulateNetworkConditions", offline=is_offline, latency=0, downloadThroughput=-1, uploadThroughput=-1)
-
-
-def test_client_continues_at_once_when_the_network_returns(server, site, window):
-    page = window(site.address)
-    client = Client(page, "/a", share=False, **PATIENT)
-    client.wait_state("connected")
-    set_network(page, True)
-    server.relay.cut()
-    client.wait_state("interrupted")
-    server.publish("/a", "while the client was away")
-    server.relay.target = server.daemon.address
-    set_network(page, False)
-    client.wait_event("while the client was away")
-    client.wait_state("connected")
-    assert not client.gaps()
-
-
-def test_frozen_page_reports_a_gap_since_before_the_first_lost_event(server, site, window):
+def test_frozen_page_reports_a_gap_since_before_the_first_lost_event(server, blank, tmp_path):
     """A response that arrives while the page is frozen does not hide that later events are lost."""
-    page = window(site.address)
+    log = tmp_path / f"nginx-{server.relay.port}/var/log/nginx/access.log"
+    page = blank()
     client = Client(page, "/a", share=False)
     client.wait_state("connected")
-    wait_until("a connect is held", lambda: site.waiting)
-    held = set(site.waiting)
+    server.daemon.expect({CONNECTS_HELD: 1})
+    answered = log.read_text()
     # As a phone does while it is locked.
     page.hide()
     page.command("Page.setWebLifecycleState", state="frozen")
     server.publish("/a", "arrives at the frozen page")
-    wait_until("the response is sent", lambda: held.isdisjoint(site.waiting))
+    wait_until("the response is sent", lambda: log.read_text() != answered)
     lost = time.time() * 1000
     server.restart()
     server.publish("/a", "lost")
     page.command("Page.setWebLifecycleState", state="active")
     page.show()
-    wait_until("the client reports a gap", client.gaps)
+    wait_until("the client reports a gap", lambda: client.gaps)
     client.wait_state("connected")
     server.publish("/a", "after the return")
     client.wait_event("after the return")
-    assert client.events() == ["arrives at the frozen page", "after the return"]
-    assert len(client.gaps()) == 1 and client.gaps()[0] <= lost
+    assert client.events == ["arrives at the frozen page", "after the return"]
+    [gap] = client.gaps
+    assert gap <= lost
 
 
 def leave_and_return(server, page: Window, address: str) -> None:
@@ -70,13 +50,9 @@ def leave_and_return(server, page: Window, address: str) -> None:
     assert page.run("return window.isKept"), "the browser has not kept the page"
 
 
-@pytest.fixture(params=["HTTP/1.1", "nginx"])
-def address(request, server):
-    """The address of a site with the pages."""
-    return request.getfixturevalue("site").address if request.param == "HTTP/1.1" else request.getfixturevalue("nginx")(server.relay.port)
-
-
-def test_chat_continues_after_back(server, address, chat):
+@pytest.mark.parametrize("changes", [{}, {" http2": ""}], ids=["HTTP/2", "HTTP/1.1"])
+def test_chat_continues_after_back(server, nginx, chat, changes):
+    address = nginx(server.relay.port, changes)
     ann, ben = chat(f"{address}/chat/", "Ann"), chat(f"{address}/chat/", "Ben")
     leave_and_return(server, ann, address)
     ann.wait_state("connected")

@@ -10,7 +10,7 @@ from tree import Tree
 
 HOUR = 3600
 # The manual page of each command's program (docs/README.md).
-PAGES = {"serve": "bayeuxd.8", "replay": "bayeux_replay.1", "load": "bayeux_load.1"}
+PAGES = {"serve": ["bayeuxd.8"], "replay": ["bayeux_replay.1", "bayeux_record.1"], "load": ["bayeux_load.1"]}
 
 
 @pytest.fixture
@@ -94,12 +94,14 @@ def test_load_may_open_as_many_files_as_the_system_allows(tree: Tree) -> None:
 
 
 @pytest.mark.parametrize("has_man", [True, False])
-@pytest.mark.parametrize("command, page", PAGES.items())
-def test_help_of_a_program_is_its_manual_page(command: str, page: str, has_man: bool, tree: Tree) -> None:
-    tree.write(f"packaging/{page}", f"the page {page}\n")
+@pytest.mark.parametrize("command, pages", PAGES.items())
+def test_help_of_a_program_is_its_manual_pages(command: str, pages: list[str], has_man: bool, tree: Tree) -> None:
+    for it in pages:
+        tree.write(f"packaging/{it}", f"the page {it}\n")
     make_program(tree.top / "../bin/man", f'{"echo man" if has_man else "exit 3 #"} "$@"')
-    wanted = f"man -l {tree.top}/packaging/{page}" if has_man else f"the page {page}"
-    assert tree.call("./bayeux", "help", command) == (0, wanted, "")
+    wanted = " ".join(["man -l", *pages]) if has_man else "\n".join(f"the page {it}" for it in pages)
+    for args in (["help", command], [command, "--help"])[: 1 if command == "serve" else 2]:
+        assert tree.call("./bayeux", *args) == (0, wanted, "")
 
 
 # Commands, and what is run. TOP: the folder of the repository.

@@ -15,7 +15,6 @@ from base import TOP, read
 from bayeuxd import Bayeuxd
 from daemon import check_serves, get
 from metrics import ask_for
-from tree import Tree
 
 NO_TOOLCHAIN = "the toolchain's command rt is not on the path, so that no programs of this machine can be compared"
 VERSION = read("VERSION").strip()
@@ -30,21 +29,13 @@ class CannotCompare(Exception):
     """A program cannot be compared. The message says why."""
 
 
-def other_sources(release: dist.Release) -> str:
-    """Returns the programs that the release built from other sources than the current ones, or ""."""
-    return ", ".join(it for it in dist.PROGRAMS if not release.is_current(it))
-
-
 def other_toolchains(release: dist.Release) -> str:
     """Returns the toolchains that built the release, other than the one on the path, or ""."""
     return ", ".join(sorted({it for _, it in release.sources.values()} - {repository.kit_id(repository.toolchain())}))
 
 
 def built_here(name: str, is_proved: bool, folder: Path) -> bytes:
-    """Returns the content of program `name` that was built here, after `strip`.
-
-    If `is_proved`, this is the program that `rt ci` left, otherwise the one that scripts/build built from the current sources.
-    """
+    """Returns the content, after `strip`, of a program that `rt ci` left if `is_proved`, or scripts/build built from the current sources."""
     path = Path(repository.TOP, "crates", name, "out", name)
     checksum = repository.Checksums(repository.toolchain()).checksum(name)
     if not (path.is_file() if is_proved else repository.is_up_to_date(path, checksum)):
@@ -78,8 +69,9 @@ def release() -> dist.Release:
     if not os.path.exists(dist.FOLDER):
         pytest.skip("there is no release in dist/")
     found = dist.Release()
-    if other_sources(found):
-        pytest.skip(f"dist/ was built from other sources of {other_sources(found)}")
+    others = [it for it in dist.PROGRAMS if not found.is_current(it)]
+    if others:
+        pytest.skip(f"dist/ was built from other sources of {', '.join(others)}")
     return found
 
 
@@ -166,37 +158,3 @@ def test_pages_name_the_files_of_this_version() -> None:
     named = set(re.findall(r"\bgadzilk[-_][\w.*-]+\.(?:deb|tar\.gz|tgz|whl)\b", pages))
     assert FILES - {it for pattern in named for it in fnmatch.filter(FILES, pattern)} == {dist.SOURCES, dist.CHECKSUMS}
     assert [it for it in named if not fnmatch.filter(FILES, it)] == []
-
-
-@pytest.fixture
-def tree(tmp_path: Path, monkeypatch: pytest.MonkeyPatch) -> Tree:
-    """A small repository, whose release and programs the functions above read."""
-    tree = Tree(tmp_path)
-    monkeypatch.setattr(repository, "TOP", str(tree.top))
-    monkeypatch.setattr(dist, "FOLDER", f"{tree.top}/dist")
-    monkeypatch.setenv("PATH", tree.path)
-    return tree
-
-
-@pytest.fixture
-def stripped(tmp_path: Path) -> bytes:
-    """A small program after `strip`."""
-    if not shutil.which(dist.STRIP[0]):
-        pytest.skip(f"{dist.STRIP[0]} is not installed")
-    copy = shutil.copy(str(shutil.which("true")), tmp_path / "stripped")
-    subprocess.run([*dist.STRIP, copy], check=True)
-    return copy.read_bytes()
-
-
-@pytest.mark.parametrize("is_proved", [False, True])
-def test_wrong_byte_is_found(is_proved: bool, tree: Tree, stripped: bytes, tmp_path: Path) -> None:
-    tree.release(stripped)
-    with pytest.raises(CannotCompare, match="bayeuxd was not proved"):
-        expect_same_programs(dist.Release(), is_proved, tmp_path)
-    tree.prove(Path(str(shutil.which("true"))).read_bytes())
-    expect_same_programs(dist.Release(), is_proved, tmp_path)
-    wrong = bytearray(stripped)
-    wrong[len(wrong) // 2] ^= 1
-    tree.release(bytes(wrong))
-    with pytest.raises(pytest.fail.Exception, match=f"first at byte {len(wrong) // 2}"):
-        expect_same_programs(dist.Release(), is_proved, tmp_path)

@@ -2,9 +2,8 @@
 
 With --program proved, as in the gate, they are skipped: `rt ci` runs them as proved builds.
 """
-import contextlib
 import fcntl
-import os
+import pathlib
 import shutil
 import subprocess
 import time
@@ -16,7 +15,7 @@ import repository
 # The memory in GB that a compile is likely to need, and the seconds between two looks at it.
 MEMORY, PAUSE = 2.0, 1.0
 NAMES = sorted(filter(repository.has_tests, repository.libraries()), key=repository.total_lines, reverse=True)
-PASSED = f"{repository.TOP}/out/passed"
+PASSED = pathlib.Path(repository.TOP, "out/passed")
 
 pytestmark = [
     pytest.mark.crates,
@@ -34,33 +33,26 @@ def checksums():
         pytest.skip(str(error))
 
 
-@contextlib.contextmanager
-def memory():
-    """Waits until there is memory for another compile, and reserves it while one of the other processes decides."""
-    os.makedirs(PASSED, exist_ok=True)
-    with open(f"{PASSED}/.turn", "wb") as turn:
+def wait_for_memory():
+    """Waits until there is memory for another compile. One process at a time decides."""
+    PASSED.mkdir(parents=True, exist_ok=True)
+    with open(PASSED / ".turn", "wb") as turn:
         fcntl.flock(turn, fcntl.LOCK_EX)
         while repository.free_memory() < MEMORY:
             time.sleep(PAUSE)
-        yield
 
 
 @pytest.mark.parametrize("name", NAMES)
 def test_crate(name, checksums, pytestconfig, record_property):
     if pytestconfig.getoption("--program") == "proved":
         pytest.skip("`rt ci` runs the proved tests of crates")
-    marker, checksum = f"{PASSED}/{name}", checksums.checksum(name)
-    if os.path.isfile(marker) and not pytestconfig.getoption("--again"):
-        with open(marker, encoding="ascii") as text:
-            if text.read() == checksum:
-                record_property("passed_before", name)
-                return
-    with memory():
-        pass
+    marker, checksum = PASSED / name, checksums.checksum(name)
+    if marker.is_file() and marker.read_text(encoding="ascii") == checksum and not pytestconfig.getoption("--again"):
+        record_property("passed_before", name)
+        return
+    wait_for_memory()
     args = [f"{repository.TOP}/scripts/checked", "--test", name]
-    result = subprocess.run(
-        args, stdin=subprocess.DEVNULL, stdout=subprocess.PIPE, stderr=subprocess.STDOUT, text=True, errors="replace", check=False
-    )
+    streams = {"stdin": subprocess.DEVNULL, "stdout": subprocess.PIPE, "stderr": subprocess.STDOUT}
+    result = subprocess.run(args, text=True, errors="replace", check=False, **streams)
     assert result.returncode == 0, result.stdout
-    with open(marker, "w", encoding="ascii") as text:
-        text.write(checksum)
+    marker.write_text(checksum, encoding="ascii")

@@ -1,13 +1,12 @@
 """Addresses of the listeners: in use, of a name, of IPv6, and of this machine."""
 import contextlib
-import itertools
 import os
 import socket
 import subprocess
 
 import pytest
 
-from base import reserved_port
+from base import has_ipv6, reserved_port
 from daemon import SEED, check_serves, open_session
 from runs import ANYWHERE, cannot, match, no_place, run, without_times
 
@@ -22,16 +21,6 @@ def taken():
     """An address that is in use."""
     with socket.create_server(("127.0.0.1", 0)) as listener:
         yield f"127.0.0.1:{listener.getsockname()[1]}"
-
-
-def has_ipv6():
-    """Returns whether a process can listen at the loopback address of IPv6."""
-    with contextlib.suppress(OSError), socket.create_server(("::1", 0), family=socket.AF_INET6):
-        return True
-    return False
-
-
-needs_ipv6 = pytest.mark.skipif(not has_ipv6(), reason="this machine has no ::1")
 
 
 @pytest.mark.parametrize("kind", ["--listen", "--readers", "--listen with readers", "--metrics", "arguments"])
@@ -49,13 +38,6 @@ def test_address_in_use_is_an_error_and_creates_no_record(program, taken, tmp_pa
     wanted = cannot("cannot listen for metrics", taken) if kind == "--metrics" else no_place(taken)
     assert match(without_times(errors.splitlines())[1:], wanted), errors
     assert not os.listdir(tmp_path)
-
-
-@pytest.mark.parametrize("flags", itertools.combinations(("--listen", "--readers", "--metrics"), 2), ids=" ".join)
-def test_two_listeners_cannot_have_one_address(program, flags):
-    """The error names both flags."""
-    status, output, errors = run(program, [it for flag in flags for it in (flag, "127.0.0.1:1")])
-    assert (status, output) == (2, "") and all(it in errors for it in flags), errors
 
 
 @pytest.mark.parametrize("is_third", [False, True], ids=["first", "third"])
@@ -77,7 +59,7 @@ def test_listener_is_at_the_first_free_address_of_a_name(program, tmp_path, flag
     assert output == f"listening {host}:{port}\n" or flag != "--listen"
 
 
-@needs_ipv6
+@pytest.mark.skipif(not has_ipv6(), reason="this machine has no ::1")
 def test_each_listener_serves_at_an_address_of_ipv6(daemon, client):
     server = daemon("--listen", "[::1]:0", "--readers", "[::1]:0", "--metrics", "[::1]:0")
     own = server.logged_address("] listening address=")

@@ -1,7 +1,6 @@
-"""No request takes a daemon much more processor time than its size justifies.
+"""No request takes a daemon much more processor time for each byte of it and its response than one of 256 publishes.
 
-Some forty shapes of requests, most of about 100 kB, are compared with a request of 256 publishes: by the processor time for each byte of
-requests and responses.
+Some forty shapes of requests, most of about 100 kB, are tried.
 """
 import json
 import time

@@ -37,10 +37,7 @@ def is_served(address):
 
 
 def hold_connects(client, publisher, *listeners):
-    """Opens `SHARDS` sessions over the connection `publisher`, and sends connects of those in `HOLDING`, at each of `listeners` in turn.
-
-    Returns the connections and the sessions of these connects.
-    """
+    """Opens `SHARDS` sessions, and sends connects of those in `HOLDING` to each of `listeners` in turn. Returns their connections and sessions."""
     sessions = [open_session(publisher) for _ in range(SHARDS)]
     held = [(client(listener), sessions[it]) for it, listener in zip(HOLDING, itertools.cycle(listeners))]
     for it in held:

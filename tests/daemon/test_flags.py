@@ -16,7 +16,7 @@ from metrics import REFUSED_TICKS, TICKED
 from runs import ANYWHERE, cannot, faults, match, no_place, run, without_times
 
 # What the log has of settings that are off, and of those that the log leaves out. The log has the others as the page has them.
-OFF = {"record-answers": "false", "until-eof": "false", "ride": "false", "anonymous": "false", "bytes": "no-limit"}
+OFF = {"record-answers": "false", "until-eof": "false", "ride": "false", "anonymous": "false", "bytes": "no-limit", "record-bytes": "no-limit"}
 UNLOGGED = {"readers-publish", "seed-file", "log", "log-level"}
 # The settings in the log of a daemon whose flags change none.
 DEFAULTS = {
@@ -25,41 +25,25 @@ DEFAULTS = {
 }
 del DEFAULTS["no_callback_polling"]
 DEFAULTS["callback_polling"] = "true"
-# Values of flags, and those in the log if they differ.
-ALIKE = {
-    "listen": ["localhost:0", "[::1]:0"],
-    "readers": ["localhost:0", "[::1]:0"],
-    "metrics": ["localhost:0", "[::1]:0"],
-    "shards": ["3"],
-    "limit": ["5"],
-    "bytes": ["6"],
-    "patterns": ["1023"],
-    "sessions": ["8"],
-    "body": ["9"],
-    "connections": ["1", "4", "4294967296", "18446744073709551615"],
-    "timeout": ["7s", "500ms", "4294967s"],
-    "record": ["one"],
+# Values of flags, with those in the log if they differ: VALUE=LOGGED.
+LOGGED = {
+    **dict.fromkeys(ADDRESSES, "localhost:0 [::1]:0 127.0.0.1:65535 [::1]:1"),
+    **dict.fromkeys(TIMES, "0 0s=0 1ms 500ms 999ms 1000=1s 1500=1500ms 7s 3000ms=3s 4294967s 4294967295=4294967295ms"),
+    **{"shards": "1 3 64", "limit": "1 5 2k=2048 65536", "bytes": "1 6 4095m=4293918720 4294967295", "record": "one"},
+    **{"patterns": "1 1023 1024", "sessions": "1 8 32k=32768 65536", "body": "1 9 64k=65536 1m=1048576 1048576"},
+    **{"connections": "1 4 4294967296 18446744073709551615", "record-bytes": "1 10k=10240 17592186044416"},
 }
-OTHER = [
-    *(("timeout", "0s", "0"), ("timeout", "1500", "1500ms"), ("interval", "2000", "2s"), ("max-interval", "3000ms", "3s")),
-    *(("limit", "2k", "2048"), ("bytes", "4095m", "4293918720"), ("patterns", "1k", "1024"), ("sessions", "32k", "32768")),
-    *(("body", "64k", "65536"), ("body", "1m", "1048576")),
-]
-LOGGED_TIMES = {"0": "0", "1ms": "1ms", "1000": "1s", "999ms": "999ms", "7200s": "7200s", "4294967295": "4294967295ms"}
-OTHER += [(name, *it) for name in TIMES for it in LOGGED_TIMES.items()]
-OTHER += [(name, value, value) for name, values in ALIKE.items() for value in values]
-OTHER += [(name, str(it), str(it)) for name, greatest in GREATEST.items() for it in (1, greatest)]
-OTHER += [(name, it, it) for name in ADDRESSES for it in ("127.0.0.1:65535", "[::1]:1")]
 # Flags, and the settings that they change.
-SETTINGS = [([f"--{name}", value], {name.replace("-", "_"): logged}) for name, value, logged in OTHER]
+SETTINGS = [
+    ([f"--{name}", value], {name.replace("-", "_"): logged or value})
+    for name, values in LOGGED.items()
+    for value, _, logged in (it.partition("=") for it in values.split())
+]
 SETTINGS += [([f"--{name}"], {name.replace("-", "_"): "true"}) for name in ("until-eof", "ride", "anonymous")]
 SETTINGS += [
     (["--no-callback-polling"], {"callback_polling": "false"}),
-    (["--patterns=1023"], {"patterns": "1023"}),
-    (["--readers", "127.0.0.1:0", "--listen", "localhost:0"], {"readers": "127.0.0.1:0", "listen": "localhost:0"}),
     (["--readers", "localhost:0", "--readers-publish", "/hall"], {"readers": "localhost:0", "readers_publish": "/hall"}),
     (["--figures", "localhost:0"], {"metrics": "localhost:0"}),
-    (["--log", "text", "--log-level", "info"], {}),
     (["--record-answers", "--record=two"], {"record": "two", "record_answers": "true"}),
     (
         ["[::1]:0", "7", "1", "2000", "4294967295", SEED, "18446744073709551615", "ra", "65536"],
@@ -72,15 +56,13 @@ SETTINGS += [
 
 
 def test_documented_ranges_are_tested():
-    assert {*GREATEST} == {"shards", "bytes", "sessions", "patterns", "limit", "body"}
+    assert all(LOGGED[name].split()[-1] == str(greatest) for name, greatest in GREATEST.items())
     assert ({*TIMES}, {*ADDRESSES}) == ({"timeout", "interval", "max-interval"}, {"listen", "readers", "metrics"})
 
 
 def name_of(case):
-    """Returns the name of a test with the flags `case`. Other parts of a test have none."""
-    if not isinstance(case, list) or not all(isinstance(it, (str, bytes)) for it in case):
-        return ""
-    return " ".join(map(str, case)) or "none"
+    """Returns a list of flags as the name of a test."""
+    return " ".join(map(str, case)) if isinstance(case, list) else ""
 
 
 @pytest.mark.parametrize("flags, changed", SETTINGS, ids=name_of)
@@ -106,17 +88,13 @@ WARNINGS = [
     ([], []),
     (["--interval", "5s", "--max-interval", "5s"], [sessions_end("5s", "5s")]),
     (["--interval", "5s", "--max-interval", "4s"], [sessions_end("5s", "4s")]),
-    (["--interval", "1ms", "--max-interval", "0"], [sessions_end("1ms", "0")]),
     (["--interval", "5s", "--max-interval", "5001"], []),
     (["--interval", "0", "--max-interval", "0"], []),
+    (["--interval", "500ms", "--max-interval", "1000"], []),
     (["--timeout", "1ms"], [below_second("timeout", 1)]),
     (["--timeout", "999ms"], [below_second("timeout", 999)]),
     (["--timeout", "1s"], []),
     (["--timeout", "0"], []),
-    (["--max-interval", "6ms"], [below_second("max_interval", 6)]),
-    (["--max-interval", "999ms"], [below_second("max_interval", 999)]),
-    (["--interval", "500ms", "--max-interval", "1000"], []),
-    (["--timeout", "5ms", "--max-interval", "6ms"], [below_second("timeout", 5), below_second("max_interval", 6)]),
     (
         ["--timeout", "5ms", "--interval", "6ms", "--max-interval", "6ms"],
         [below_second("timeout", 5), below_second("max_interval", 6), sessions_end("6ms", "6ms")],
@@ -129,71 +107,56 @@ def test_log_warns_of_unusual_times(daemon, flags, warnings):
     assert daemon(*flags).logged("WARN") == warnings
 
 
-ADVICE = {"reconnect": "retry", "interval": 0, "timeout": 30000}
-
-
-@pytest.mark.parametrize(
-    "flags, advice",
-    [(["--ride"], ADVICE), (["--interval", "2s", "--timeout", "7s"], {**ADVICE, "interval": 2000, "timeout": 7000})],
-    ids=name_of,
-)
-def test_advice_has_the_times(daemon, client, flags, advice):
-    connection = client(daemon(*ANYWHERE, "--until-eof", *flags, is_plain=True))
-    assert expect_success(connection.ask([HANDSHAKE]), 1)[0]["advice"] == advice
-    # Neither flag allows publishes without a client id.
-    expect_error(connection.ask([{"channel": "/a", "data": 1}]), "401::No client id")
-
-
-# How the daemon describes the values of a time, and an address.
-TIME, ADDRESS = ("a time such as 500ms or 30s, up to 4294967295ms", "a host and a port such as 127.0.0.1:8087")
-OTHER_THAN = "expected an address other than that of --"
-# Flags that can be repeated.
-REPEATED = ["readers-publish"]
+# What wrong flags are expected to have in place of their values.
+TIME, ADDRESS = "a time such as 500ms or 30s, up to 4294967295ms", "a host and a port such as 127.0.0.1:8087"
+PATTERN, OTHER_THAN = "a pattern of channels such as /chat/*", "an address other than that of --"
 WRONG_TIMES = ("3m", "4294967296", "4294968s", "s", "ms", "-1", "+5", "5 s", "5S", "1.5s", "1h", "1k", "")
 WRONG_ADDRESSES = (
     *("127.0.0.1", "localhost", "127.0.0.1:", "127.0.0.1:65536", "127.0.0.1:70000", "127.0.0.1:x", "[::1]", ""),
     *(":8087", ":0", "http://127.0.0.1:8087", "//localhost:0"),
 )
+WRONG_COUNTS = ("0", "17179869184m", "x", "+1", "-1", "1s", "1K", "k", "0k", "")
+# The flag that can be repeated, with the flag that it needs.
+REPEATED, READERS = "readers-publish", ["--readers", "localhost:0"]
+
+
+def wrong(names, expected, values, before=()):
+    """Returns rows for `WRONG_FLAGS`: each of the flags `names` with each of `values`, after the flags `before`."""
+    return [([*before, f"--{name}={it}"], f"--{name}: expected {expected}, got {it}\n") for name in names for it in values]
+
+
 # Flags with which no daemon serves, and a part of what it prints on standard error.
 WRONG_FLAGS = [
-    (["--shards", "65"], "--shards: expected a number from 1 to 64, got 65"),
-    (["--shards", "0"], "--shards: expected a number from 1 to 64, got 0"),
+    *wrong(TIMES, TIME, WRONG_TIMES),
+    *(row for it in ("1", "30", "999") for row in wrong(TIMES, f"a unit (write {it}s or {it}ms)", [it])),
+    *wrong(ADDRESSES, ADDRESS, WRONG_ADDRESSES),
+    *wrong(["readers", "metrics"], f"{OTHER_THAN}listen", ["[::1]:8087"], ["--listen", "[::1]:8087"]),
+    *wrong(["readers"], f"{OTHER_THAN}listen", ["127.0.0.1:8087"]),
+    *wrong(["metrics"], f"{OTHER_THAN}readers", ["[::1]:1"], ["--readers", "[::1]:1"]),
+    *wrong([REPEATED], PATTERN, ["hall"], [*READERS, "--readers-publish", "/hall"]),
+    *wrong([REPEATED], PATTERN, ["/*/hall"], READERS),
+    *wrong(["shards"], "a number from 1 to 64", [*WRONG_COUNTS, "65"]),
+    *(
+        row
+        for name, most in GREATEST.items()
+        for row in wrong([name], f"a number from 1 to {most} (units: k, m)", [*WRONG_COUNTS, str(most + 1), f"{(most >> 20) + 1}m"])
+        if name != "shards"
+    ),
+    *wrong(["body"], "a number from 1 to 1048576 (units: k, m)", ["2m", "1025k"]),
+    *wrong(["connections"], "a number without a unit", ["x", "5k", "1m", "-1", "+1", "18446744073709551616", ""]),
+    *wrong(["log"], "text or json", ["xml", "JSON", "jsons", ""]),
+    *wrong(["log-level"], "error, warn or info", ["debug", "off", "warning", "INFO", ""]),
     (["--shard", "4"], "unexpected argument '--shard' found"),
     (["--ride", "x"], "unexpected argument 'x' found"),
-    *((["--listen", "[::1]:8087", f"--{it}", "[::1]:8087"], f"--{it}: {OTHER_THAN}listen, got [::1]:8087") for it in ("readers", "metrics")),
-    (["--readers", "127.0.0.1:8087"], f"--readers: {OTHER_THAN}listen, got 127.0.0.1:8087"),
-    (["--readers", "[::1]:1", "--metrics", "[::1]:1"], f"--metrics: {OTHER_THAN}readers, got [::1]:1"),
     (["--readers-publish", "/hall"], "the following required arguments were not provided:\n  --readers <ADDRESS>"),
-    (
-        ["--readers", "localhost:0", "--readers-publish", "/hall", "--readers-publish", "hall"],
-        "--readers-publish: expected a pattern of channels such as /chat/*, got hall",
-    ),
-    (
-        ["--readers", "localhost:0", "--readers-publish", "/*/hall"],
-        "--readers-publish: expected a pattern of channels such as /chat/*, got /*/hall",
-    ),
     (["--record-answers"], "the following required arguments were not provided:\n  --record <FILE>"),
 ]
-for flag in TIMES:
-    WRONG_FLAGS += [([f"--{flag}={it}"], f"--{flag}: expected {TIME}, got {it}") for it in WRONG_TIMES]
-    WRONG_FLAGS += [([f"--{flag}", it], f"--{flag}: expected a unit (write {it}s or {it}ms), got {it}") for it in ("1", "30", "999")]
-for flag, most in GREATEST.items():
-    values = (0, most + 1, "4096m", "4294967297", "17179869184m", "x", "+1", "-1", "1s", "1K", "k", "0k", "")
-    units = "" if flag == "shards" else " (units: k, m)"
-    WRONG_FLAGS += [([f"--{flag}={it}"], f"--{flag}: expected a number from 1 to {most}{units}, got {it}") for it in values]
-WRONG_FLAGS += [([f"--body={it}"], f"--body: expected a number from 1 to 1048576 (units: k, m), got {it}") for it in ("2m", "1025k")]
-for it in ("x", "5k", "1m", "-1", "+1", "18446744073709551616", ""):
-    WRONG_FLAGS += [([f"--connections={it}"], f"--connections: expected a number without a unit, got {it}")]
-for flag in ADDRESSES:
-    WRONG_FLAGS += [([f"--{flag}", it], f"--{flag}: expected {ADDRESS}, got {it}") for it in WRONG_ADDRESSES]
-WRONG_FLAGS += [(["--log", it], f"--log: expected text or json, got {it}\n") for it in ("xml", "JSON", "jsons", "")]
-for it in ("debug", "off", "warning", "INFO", ""):
-    WRONG_FLAGS += [(["--log-level", it], f"--log-level: expected error, warn or info, got {it}\n")]
-WRONG_FLAGS += [([f"--{name}"], f"a value is required for '--{name} <{argument}>'") for name, argument in VALUES]
-WRONG_FLAGS += [([f"--{name}=yes"], f"unexpected value 'yes' for '--{name}' found") for name in SWITCHES]
-for flag, word in [*((name, f" <{argument}>") for name, argument in VALUES if name not in REPEATED), *((it, "") for it in SWITCHES)]:
-    given = f"--{flag}=1" if word else f"--{flag}"
-    WRONG_FLAGS += [([given, given], f"the argument '--{flag}{word}' cannot be used multiple times")]
+for name, argument in VALUES:
+    twice = [([f"--{name}=1"] * 2, f"the argument '--{name} <{argument}>' cannot be used multiple times")]
+    WRONG_FLAGS += [([f"--{name}"], f"a value is required for '--{name} <{argument}>'"), *(twice if name != REPEATED else [])]
+for name in SWITCHES:
+    WRONG_FLAGS += [([f"--{name}=yes"], f"unexpected value 'yes' for '--{name}' found")]
+    WRONG_FLAGS += [([f"--{name}"] * 2, f"the argument '--{name}' cannot be used multiple times")]
 
 
 @pytest.mark.parametrize("flags, message", WRONG_FLAGS, ids=name_of)
@@ -219,11 +182,9 @@ def test_wrong_positional_arguments_print_the_usage(program, arguments):
 RECORD_EXISTS = "bayeuxd: a record needs a new file: name another one, or move this one away"
 # Flags with which a daemon cannot start, and patterns of all lines on standard error that are no information.
 FAULTS = [
-    ([*ANYWHERE, "--seed-file", "/dev/null"], cannot("cannot read the seed", "/dev/null")),
+    ([*ANYWHERE, "--seed-file", "/dev/null"], [*cannot("cannot read the seed", "/dev/null"), "bayeuxd: a seed has 64 hexadecimal digits"]),
     ([*ANYWHERE, "--record", "/dev/null"], [*cannot("cannot create the record", "/dev/null"), RECORD_EXISTS]),
     ([*ANYWHERE, "--record", "/dev/null/record"], cannot("cannot create the record", "/dev/null/record")),
-    ([*ANYWHERE, "--record", "/nowhere/record"], cannot("cannot create the record", "/nowhere/record")),
-    ([*ANYWHERE, "--record", ""], cannot("cannot create the record", "")),
 ]
 # An address of another machine, and a host name that is not valid.
 for it in ("192.0.2.1:0", "a..b:0"):
@@ -268,6 +229,7 @@ PHRASES = {
     **{"sessions": "live", "patterns": "patterns", "limit": "events", "body": "body or query", "ride": "waiting events with"},
     **{"anonymous": "accept publishes without a", "no-callback-polling": "accept only POSTs of application/json", "metrics": "serve metrics"},
     **{"connections": "N connections", "record": "record every", "record-answers": "record the SHA-256 of each answer"},
+    **{"record-bytes": "end the record before it has more than N bytes"},
     **{"until-eof": "standard input", "log": "write the log as text", "log-level": "log only errors (error)"},
 }
 # Words that turn a sentence into its opposite.
@@ -283,11 +245,11 @@ def test_help_has_the_documented_flags(program):
     assert sorted(name for name, _, _ in rows) == sorted([*FLAGS, "help", "version"])
     for name, argument, help_text in rows[:-2]:
         wanted, default, greatest, words = FLAGS[name]
-        default = HELP_DEFAULTS.get(default, default) if wanted and name not in REPEATED else None
+        default = HELP_DEFAULTS.get(default, default) if wanted and name != REPEATED else None
         shown, limits = re.search(r" \[default: ([^\]]*)\]$", help_text), re.search(r"\b1 to (\w+)", help_text)
         assert (argument, shown and shown[1]) == (wanted, default), f"--{name}"
         assert limits is None or limits[1].replace("1m", str(1 << 20)) == greatest, f"--{name}"
-        assert limits or not greatest or name == "bytes", f"--{name} has no range"
+        assert limits or not greatest or name in ("bytes", "record-bytes"), f"--{name} has no range"
         assert all(PHRASES[name].lower() in it.lower() for it in (help_text, words)), f"--{name}"
         assert OPPOSITES & set(help_text.split()) <= set(words.split()), f"--{name}"
 
@@ -297,13 +259,11 @@ ALL_FLAGS = [
     *(("--listen", "127.0.0.1:0"), ("--readers", "localhost:0"), ("--metrics", "127.0.0.1:0")),
     *(("--readers-publish", "/a"), ("--readers-publish", "/b/*"), ("--log", "json"), ("--log-level", "info")),
     *(("--shards", "2"), ("--timeout", "7s"), ("--interval", "2s"), ("--max-interval", "601s"), ("--limit", "3"), ("--bytes", "500")),
-    *(("--patterns", "4"), ("--sessions", "5"), ("--body", "6000"), ("--connections", "5")),
+    *(("--patterns", "4"), ("--sessions", "5"), ("--body", "6000"), ("--connections", "5"), ("--record-bytes", "500000")),
 ]
-ALL_LOGGED = {
-    **{"listen": "127.0.0.1:0", "readers": "localhost:0", "metrics": "127.0.0.1:0", "readers_publish": "/a,/b/*", "shards": "2"},
-    **{"timeout": "7s", "interval": "2s", "max_interval": "601s", "limit": "3", "bytes": "500", "patterns": "4", "sessions": "5"},
-    **{"body": "6000", "connections": "5", "ride": "true", "anonymous": "true", "callback_polling": "false", "record_answers": "true"},
-    "until_eof": "true",
+ALL_LOGGED = {name[2:].replace("-", "_"): value for name, value in ALL_FLAGS if not name.startswith("--log")} | {
+    **{"readers_publish": "/a,/b/*", "ride": "true", "anonymous": "true", "callback_polling": "false"},
+    **{"record_answers": "true", "until_eof": "true"},
 }
 FIRST_LINE = "shards=2 timeout=7000 interval=2000 max_interval=601000 options=ra bytes=500 sessions=5 patterns=4 limit=3"
 LIMITS = {"events": 3, "bytes": 500, "patterns": 4, "sessions": 5, "body": 6000, "shards": 2}
@@ -349,10 +309,8 @@ def test_each_flag_has_its_effect_with_all_others(daemon, client, tmp_path):
     readers = address_in(server.process.stdout.readline().decode())
     lines = [json.loads(it) for it in server.full_log().splitlines()]
     assert [it["event"] for it in lines][:4] == ["starting", "metrics listening", "recording started", "listening"]
-    assert {name: value for name, value in lines[0].items() if name not in ("time", "level", "event")} == {
-        **ALL_LOGGED,
-        "record": str(record),
-    }
+    settings = {name: value for name, value in lines[0].items() if name not in ("time", "level", "event")}
+    assert settings == {**ALL_LOGGED, "record": str(record)}
     server.metrics = address_in(lines[1]["address"])
     with client(server) as connection, client(readers) as reader:
         first = expect_success(connection.ask([HANDSHAKE]), 1)[0]
@@ -374,20 +332,12 @@ def test_each_flag_has_its_effect_with_all_others(daemon, client, tmp_path):
     assert {"A", "N", "P"} <= {it.split()[0 if it[0] == "A" else 1] for it in written[1:]}, "requests and answers in the record"
 
 
-# A value of each flag with one, except those for files and `--connections`.
-USUAL_VALUES = {
-    **{"listen": "127.0.0.1:0", "readers": "127.0.0.1:0", "readers-publish": "/a", "metrics": "127.0.0.1:0", "shards": "2"},
-    **{"timeout": "30s", "interval": "0", "max-interval": "600s", "bytes": "1m", "sessions": "8", "patterns": "8", "limit": "8"},
-    **{"body": "64k", "log": "text", "log-level": "info"},
-}
-
-
 @pytest.mark.parametrize("has_all", [False, True], ids=["few flags", "all flags"])
 def test_end_of_input_ends_no_daemon_without_the_flag(daemon, client, tmp_path, has_all):
     (tmp_path / "seed").write_text(SEED, encoding="ascii")
-    values = {**USUAL_VALUES, "record": tmp_path / "record", "seed-file": tmp_path / "seed"}
-    assert sorted([*values, *SWITCHES, "connections"]) == sorted(FLAGS)
-    given = [*(f"--{name}={value}" for name, value in values.items()), *(f"--{it}" for it in SWITCHES if it != "until-eof")]
+    values = {**dict(ALL_FLAGS), "--log": "text", "--record": tmp_path / "record", "--seed-file": tmp_path / "seed"}
+    del values["--connections"]
+    given = [*(f"{name}={value}" for name, value in values.items()), *(f"--{it}" for it in SWITCHES if it != "until-eof")]
     server = daemon(*(given if has_all else [*ANYWHERE, "--metrics", "127.0.0.1:0"]), is_plain=True, stdin=subprocess.DEVNULL)
     wait_until("ticks after the end of standard input", lambda: server.scrape()[TICKED] > 3)
     open_session(client(server))

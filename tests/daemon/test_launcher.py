@@ -8,7 +8,7 @@ import subprocess
 
 import pytest
 
-from base import TOP, child_of, wait_until
+from base import TOP, child_of, make_program, wait_until
 from daemon import TIMEOUT_SECONDS, check_serves, hold_connect
 from metrics import REQUESTS_HELD
 
@@ -24,10 +24,9 @@ AS_PROCESS_1 = ["unshare", "--user", "--map-root-user", "--pid", "--fork", "--ki
 
 @pytest.fixture
 def launch(daemon, program, clock, tmp_path):
-    """Starts daemons with a record by bayeuxd-run: `launch(*flags, before=.., **variables)`.
+    """Starts daemons on `clock`, with a record, by bayeuxd-run: `launch(*flags, before=.., **variables)`.
 
-    They use `clock`, so that they serve until it is put forward. The path of the record has spaces and an asterisk. `before`: the
-    command line before the path of bayeuxd-run. `variables`: more environment variables.
+    The path of the record has spaces and an asterisk. `before`: the command line before bayeuxd-run. `variables`: of the environment.
     """
     folder = tmp_path / "bayeuxd run * "
     folder.mkdir()
@@ -73,14 +72,10 @@ def test_second_signal_changes_nothing(launch, clock):
 
 @pytest.mark.parametrize("shell", SHELLS, ids=lambda it: it[0])
 def test_shells(launch, clock, shell):
+    """Also if no file can be written."""
     if not shutil.which(shell[0]):
         pytest.skip(f"there is no {shell[0]}")
-    server = launch(before=shell)
-    expect_graceful_end(server, clock, server.process.terminate)
-
-
-def test_folder_for_files_cannot_be_written(launch, clock):
-    server = launch(TMPDIR="/proc")
+    server = launch(before=shell, TMPDIR="/proc")
     expect_graceful_end(server, clock, server.process.terminate)
 
 
@@ -96,9 +91,7 @@ def test_no_file_is_left(launch, clock, tmp_path):
 @pytest.mark.parametrize("step", ["mkfifo", "rm"])
 def test_signal_comes_before_the_daemon_runs(launch, clock, tmp_path, step, number):
     """While bayeuxd-run makes its pipes, and once they are open."""
-    stub = tmp_path / step
-    stub.write_text(f'#!/bin/sh\n{shutil.which(step)} "$@"\nkill -{number.value} $PPID\n', encoding="ascii")
-    stub.chmod(0o755)
+    make_program(tmp_path / step, f'{shutil.which(step)} "$@"\nkill -{number.value} $PPID')
     with_stub = ["env", f"STUBS={tmp_path}", "sh", "-c", 'PATH="$STUBS:$PATH" exec "$0" "$@"']
     launch(before=with_stub, waits=False).let_end(clock)
 
@@ -147,7 +140,7 @@ def test_status_is_that_of_the_daemon(launch, flags, status):
 
 def test_status_without_a_program(launch, tmp_path):
     (tmp_path / "bayeuxd run * " / "bayeuxd").unlink()
-    server = launch(waits=False, PATH=f"{tmp_path}:/usr/bin:/bin")
+    server = launch(waits=False, PATH="/usr/bin:/bin")
     server.status = 127
     assert server.process.wait(TIMEOUT_SECONDS) == 127
 

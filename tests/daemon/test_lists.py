@@ -1,4 +1,5 @@
 """The lists of sessions and of channels at the metrics listener."""
+import collections
 import json
 import socket
 import struct
@@ -83,6 +84,9 @@ def test_list_of_sessions_has_at_most_a_thousand(daemon, client, shards):
     sessions += open_many(connection, 1)
     found = sessions_of(server)
     assert len(found) == MOST_LISTED + 1 and found[-1] == TRUNCATED
+    # The shards are visited in turn.
+    counts = collections.Counter(it["number"] % int(shards) for it in found[:-1]).values()
+    assert max(counts) - min(counts) <= 1
     close_all(connection, sessions)
 
 

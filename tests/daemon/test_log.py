@@ -3,7 +3,6 @@ import datetime
 import json
 import os
 import re
-import select
 import subprocess
 import tempfile
 import time
@@ -14,7 +13,7 @@ from base import TIMEOUT_SECONDS
 from daemon import HANDSHAKE, check_serves, expect_error, expect_status, expect_success, open_session, poll, post, subscribe
 from documented import expect_documented
 from metrics import scrape
-from runs import ANYWHERE, CANNOT_LISTEN, LOG_TIME, match, without_times
+from runs import ANYWHERE, CANNOT_LISTEN, LOG_TIME, match, run, without_times
 
 # Flags with which a daemon logs a warning, and its log: the priority of each line, and its text up to a value that differs.
 WARNED = ["--timeout", "5ms"]
@@ -35,33 +34,27 @@ def log_of(program):
     `journal`: a format of JOURNAL_STREAM for the device and the inode of standard error, or `None` for no such variable.
     """
 
-    def run(*flags, journal=None):
+    def log(*flags, journal=None):
         env = {name: value for name, value in os.environ.items() if name != "JOURNAL_STREAM"}
         with tempfile.TemporaryFile() as errors:
             if journal is not None:
                 status = os.fstat(errors.fileno())
                 env["JOURNAL_STREAM"] = journal.format(status.st_dev, status.st_ino)
-            how = {"stdin": subprocess.DEVNULL, "stdout": subprocess.DEVNULL, "stderr": errors, "env": env, "timeout": TIMEOUT_SECONDS}
-            subprocess.run([program, *ANYWHERE, "--until-eof", *flags], check=False, **how)
+            run(program, [*ANYWHERE, "--until-eof", *flags], stderr=errors, env=env)
             errors.seek(0)
             return errors.read().decode().splitlines()
 
-    return run
-
-
-def now():
-    """Returns the time, in UTC."""
-    return datetime.datetime.now(datetime.timezone.utc)
+    return log
 
 
 def expect_times(texts, before):
-    """Checks that each of `texts` begins with a time between `before` and now. A time has milliseconds."""
-    times = [datetime.datetime.strptime(f"{it[:23]}+0000", "%Y-%m-%dT%H:%M:%S.%f%z") for it in texts]
-    assert all(before - datetime.timedelta(milliseconds=1) < it < now() for it in times)
+    """Checks that each of `texts` begins with a time of UTC between `before` and now, in seconds. A time has milliseconds."""
+    times = [datetime.datetime.strptime(f"{it[:23]}+0000", "%Y-%m-%dT%H:%M:%S.%f%z").timestamp() for it in texts]
+    assert all(before - 0.001 < it < time.time() for it in times)
 
 
 def test_line_begins_with_its_time(log_of):
-    before = now()
+    before = time.time()
     lines = log_of(*WARNED)
     assert match(lines, [f"({LOG_TIME}) {re.escape(it)}.*" for _, it in LINES]), lines
     expect_times(lines, before)
@@ -81,7 +74,7 @@ def test_line_begins_with_its_time_if_the_journal_is_another_file(log_of, journa
 
 
 def test_log_of_json_has_the_keys_and_values_of_a_text(log_of, tmp_path):
-    before = now()
+    before = time.time()
     path = f'{tmp_path}/a "b" \\c\n\x01\u00e4'
     flags = ["--readers", "localhost:0", "--readers-publish", "/a", "--readers-publish", "/b/*", "--metrics", "localhost:0", *WARNED]
     texts = without_times(log_of(*flags, "--record", f"{tmp_path}/record"))
@@ -116,17 +109,12 @@ def test_level_leaves_out_less_severe_lines(log_of, level, lines, count):
 
 
 @pytest.mark.parametrize("form", ["text", "json"])
-def test_daemon_that_cannot_write_its_log_serves(program, form):
+def test_daemon_that_cannot_write_its_log_serves(daemon, form):
     with open("/dev/full", "wb") as full:
-        args = [program, *ANYWHERE, "--until-eof", "--log", form]
-        with subprocess.Popen(args, stdin=subprocess.PIPE, stdout=subprocess.PIPE, stderr=full) as process:
-            try:
-                assert select.select([process.stdout], [], [], TIMEOUT_SECONDS)[0], "it does not listen"
-                check_serves(("127.0.0.1", int(process.stdout.readline().rpartition(b":")[2])), "/full")
-                process.stdin.close()
-                assert process.wait(TIMEOUT_SECONDS) == 0
-            finally:
-                process.kill()
+        server = daemon("--log", form, stderr=full)
+    check_serves(server.address, "/full")
+    server.process.stdin.close()
+    assert server.process.wait(TIMEOUT_SECONDS) == 0
 
 
 def test_requests_are_rejected_as_before_while_nobody_reads_the_log(program, client, ticks):

@@ -1,7 +1,4 @@
-"""For how long the daemon waits for its clients, and how long a hold and a session last. The clock is virtual, so that this takes seconds.
-
-The times are those of docs/PROTOCOL.md and of docs/ERRORS.md, "Statuses of HTTP".
-"""
+"""For how long the daemon waits for its clients, and how long a hold and a session last, on a virtual clock (docs/PROTOCOL.md, docs/ERRORS.md)."""
 import re
 
 import pytest
@@ -71,9 +68,8 @@ def has_ended(connection):
 def expect_end(name, connection, wanted):
     """Waits until the daemon has ended the connection, and checks the responses before. `name`: for the message."""
     wait_until(f"the connection ends: {name}", lambda: has_ended(connection))
-    found = re.findall(rb"HTTP/1\.1 ([0-9]{3}) [^\r\n]*\r\n((?:[^\r\n]+\r\n)*)\r\n", connection.input)
-    reasons = [re.findall(r"^bayeux-error: (.*)\r$", it.decode(), re.MULTILINE) for _, it in found]
-    assert [(int(status), "".join(it)) for (status, _), it in zip(found, reasons)] == wanted, name
+    heads = re.findall(r"HTTP/1\.1 ([0-9]{3}) [^\r\n]*\r\n((?:[^\r\n]+\r\n)*)\r\n", connection.input.decode())
+    assert [(int(status), "".join(re.findall(r"bayeux-error: (.*)\r", fields))) for status, fields in heads] == wanted, name
 
 
 @pytest.mark.parametrize("listener", ["main", "readers"])

@@ -11,15 +11,10 @@ from base import read, wait_until
 from daemon import AT_ONCE, NO_SOCKETS, check_serves, expect_status, post
 from runs import ANYWHERE
 
-# Flags with limits and times, and the metrics with their values.
+# Flags with limits, and the limits and times in the metrics.
 LIMITS = ["--limit=3", "--bytes=6000", "--patterns=7", "--sessions=8", "--body=9000", "--shards=2"]
-LIMITED = {
-    **{("bayeux_limit", f'{{name="{it}"}}'): value for it, value in {"events": 3, "bytes": 6000, "patterns": 7, "sessions": 8}.items()},
-    **{("bayeux_limit", f'{{name="{it}"}}'): value for it, value in {"body": 9000, "shards": 2}.items()},
-    ("bayeux_timeout_seconds", ""): 1.5,
-    ("bayeux_interval_seconds", ""): 2,
-    ("bayeux_max_interval_seconds", ""): 4294967.295,
-}
+LIMITED = {"events": 3, "bytes": 6000, "patterns": 7, "sessions": 8, "body": 9000, "shards": 2}
+SECONDS = {"timeout": 1.5, "interval": 2, "max_interval": 4294967.295}
 # How much the metrics of memory may differ from what the system reports shortly afterwards, in bytes, or a tenth if that is more.
 MEMORY_CHANGE = 64 << 20
 # More files than some systems list in one call.
@@ -48,7 +43,9 @@ def process_metrics(server):
 
 def test_metrics_show_the_version_and_the_limits(daemon):
     server = daemon(*LIMITS, "--timeout=1500ms", "--interval=2s", "--max-interval=4294967295")
-    server.expect({("bayeux_build_info", f'{{version="{read("VERSION").strip()}"}}'): 1, **LIMITED})
+    limits = {("bayeux_limit", f'{{name="{name}"}}'): value for name, value in LIMITED.items()}
+    times = {(f"bayeux_{name}_seconds", ""): value for name, value in SECONDS.items()}
+    server.expect({("bayeux_build_info", f'{{version="{read("VERSION").strip()}"}}'): 1, **limits, **times})
 
 
 def test_metrics_have_no_limit_that_is_not_given(daemon):
@@ -69,8 +66,7 @@ def test_metrics_show_the_memory(daemon):
 
     def are_near():
         found = process_metrics(server)
-        with open(f"/proc/{server.process.pid}/status", encoding="ascii") as text:
-            status = dict(line.split(":", 1) for line in text)
+        status = dict(line.split(":", 1) for line in server.proc("status").splitlines())
         sizes = {name: 1024 * int(status[line].split()[0]) for name, line in (("resident", "VmRSS"), ("virtual", "VmSize"))}
         return all(abs(found[f"process_{name}_memory_bytes"] - size) <= max(MEMORY_CHANGE, size // 10) for name, size in sizes.items())
 

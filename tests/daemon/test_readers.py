@@ -85,18 +85,6 @@ def test_channels_that_a_pattern_matches_are_allowed(daemon, client):
     assert f" readers_publish={','.join(ALLOWED)} " in server.full_log().decode()
 
 
-def test_rejected_publish_reaches_no_session(daemon, client):
-    server = daemon("--readers", "127.0.0.1:0")
-    readers, publisher = client(server.readers), client(server)
-    session = open_session(readers)
-    subscribe(readers, "/doors", session)
-    expect_status(readers, post(json.dumps([{"channel": "/doors", "data": 1, **session}]).encode()), 403)
-    publish(readers, "/service/doors", 2, session)
-    publish(publisher, "/doors", 3, session)
-    for connection, events in ((readers, [{"channel": "/doors", "data": 3}]), (publisher, [])):
-        expect_events(poll(connection, session), events)
-
-
 def test_output_and_log_name_both_listeners_in_order(daemon):
     server = daemon("--readers", "127.0.0.1:0")
     (_, first), (_, second) = server.address, server.readers

@@ -11,6 +11,7 @@ from daemon import CONNECT, MOST_MESSAGES, OWN_PAGES, expect_status, expect_succ
 from documented import expect_documented
 from strace import NO_STRACE, STRACE, can_trace, start_traced
 
+RECORDING, RECORDED = ("bayeux_recording", ""), ("bayeux_record_bytes_total", "")
 # A body of the largest allowed size. Its line in a record has more than a MiB.
 LARGEST = b'[{"channel":"/large","data":"%s"}]' % (b"x" * ((1 << 20) - 32))
 # Of the daemons that end directly after a publish, half would lose it if the record lacked its last tenth of a second.
@@ -73,6 +74,21 @@ def test_record_has_a_publish_directly_before_the_end(daemon, client, tmp_path, 
     text = path.read_bytes()
     assert b'"/closing"' in text
     assert b"\nA " not in text
+
+
+def test_record_ends_before_its_greatest_size(daemon, client, tmp_path):
+    """With a whole line. The server goes on, and its metrics say how long the record is."""
+    path = tmp_path / "record"
+    server = daemon("--anonymous", "--record", str(path), "--record-bytes", "1k")
+    server.expect({RECORDING: 1, RECORDED: path.stat().st_size})
+    connection = client(server)
+    for at in range(20):
+        expect_success(connection.ask([{"channel": "/a", "data": f"{at:080}"}]), 1)
+    server.wait_for_log("recording ended early")
+    text = path.read_bytes()
+    assert len(text) <= 1024 and text.endswith(b"\n")
+    server.expect({RECORDING: 0, RECORDED: len(text)})
+    expect_success(connection.ask([{"channel": "/a", "data": 1}]), 1)
 
 
 @pytest.mark.proved

@@ -14,7 +14,7 @@ import urllib.parse
 
 import pytest
 
-from base import has_compiler, limit_file_size, wait_until
+from base import has_compiler, wait_until
 from daemon import CONNECT, FORM, HANDSHAKE, Connection, check_serves, get, post
 from recording import Check, read_record
 
@@ -54,17 +54,14 @@ def digest_of(response):
     """Returns the digest of the JSON in a response."""
     body = response.body
     if body.startswith(CALLBACK):
-        body = body[len(CALLBACK) + 1 : -1]
-        for character, escape in (("\u2028", rb"\u2028"), ("\u2029", rb"\u2029")):
-            body = body.replace(escape, character.encode())
+        body = body[len(CALLBACK) + 1 : -1].replace(rb"\u2028", "\u2028".encode()).replace(rb"\u2029", "\u2029".encode())
     return hashlib.sha256(body).digest()
 
 
 class Client(threading.Thread):
-    """A client that makes random requests.
+    """A client that makes random requests, and sends connects to the next listener after that of its other requests.
 
-    Its connects go to the next listener of the daemon after the one of its other requests. `finish`: all clients wait at it before
-    their last connects. `seen`: the status, and the digest of the body, of each response by the mark of its request.
+    All wait at `finish` before their last connects. `seen`: the status and the digest of each response, by the mark of its request.
     """
 
     def __init__(self, number, server, clock, finish, turns):
@@ -79,6 +76,7 @@ class Client(threading.Thread):
         self.id, self.acknowledged, self.is_unknown = "0" * 48, 0, False
 
     def run(self):
+        """Takes all turns."""
         try:
             with Connection(self.address) as self.requests, Connection(self.connect_address) as self.connects:
                 self.work()
@@ -87,7 +85,6 @@ class Client(threading.Thread):
             self.finish.abort()
 
     def work(self):
-        """Takes all turns."""
         self.open()
         self.repeat()
         for turn in range(self.turns):
@@ -227,10 +224,9 @@ def can_record(skip):
 
 
 def check_responses(path, clients):
-    """Checks the record against what the clients got, and returns how many of their responses have a digest there.
+    """Checks that the record has the right digest of each response with status 200, and returns their number.
 
-    Each response with status 200 must have the right one. A request that was rejected must not be in the record, except that the
-    daemon may answer a recorded one with 503.
+    A request that was rejected must not be there, except that the daemon may answer a recorded one with 503.
     """
     requests, digests, _ = read_record(path)
     places = {found.group(): place for place, line in requests if (found := MARK.search(line))}
@@ -268,48 +264,22 @@ def test_responses_are_those_of_the_replay(daemon, ticks, tmp_path, replay_progr
         assert check.end() >= compared
 
 
-@pytest.fixture
-def recording(daemon, tmp_path):
-    """Starts a daemon with a record that has an answer: `recording(**how)`."""
+def test_record_ends_before_a_request_that_is_too_large_for_a_line(daemon, client, tmp_path, replay_program):
+    """The request has a line end, so the record would have it as a form, in which each of its characters takes six bytes.
 
-    def start(**how):
-        path = tmp_path / "record"
-        server = daemon("--record", str(path), "--record-answers", **how)
-        check_serves(server.address, "/before")
-        wait_until("an answer is in the record", lambda: read_record(path)[1])
-        return server, path
-
-    return start
-
-
-def check_end(server, path, replay):
-    """Checks that a daemon serves after the end of its record, and that the answers before are right."""
-    check_serves(server.address, "/after")
-    server.close()
-    with Check(replay, path) as check:
-        assert check.end() > 0
-
-
-def test_daemon_whose_record_is_full_serves_on(recording, replay_program):
-    size = 50_000
-    server, path = recording(preexec_fn=lambda: limit_file_size(size))
-
-    def is_full():
-        check_serves(server.address, "/full/" + "x" * 200)
-        return any(re.match(f"recording ended early bytes={size} reason=", it) for it in server.logged())
-
-    wait_until("the record is full", is_full, pause=0)
-    check_end(server, path, replay_program)
-    assert path.stat().st_size == size
-
-
-def test_record_ends_before_a_request_that_is_too_large_for_a_line(recording, client, replay_program):
-    """The request has a line end, so the record would have it as a form, in which each of its characters takes six bytes."""
-    server, path = recording()
+    The daemon serves on, and the answers before are right.
+    """
+    path = tmp_path / "record"
+    server = daemon("--record", str(path), "--record-answers")
+    check_serves(server.address, "/before")
+    wait_until("an answer is in the record", lambda: read_record(path)[1])
     connection = client(server)
     connection.send(post(b'[\n{"channel":"/large","data":"%s"}]' % ("\u00e4" * 200_000).encode()))
     connection.response().items()
     found = server.wait_for_log(r'recording ended early bytes=([0-9]+) place=([0-9]+) reason="a request is too large for a record line')
-    check_end(server, path, replay_program)
+    check_serves(server.address, "/after")
+    server.close()
+    with Check(replay_program, path) as check:
+        assert check.end() > 0
     assert tuple(map(int, found.groups())) == (path.stat().st_size, read_record(path)[2])
     assert b"%C3%A4%C3%A4" not in path.read_bytes()

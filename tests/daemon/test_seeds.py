@@ -18,6 +18,7 @@ RIGHT = [SEED, f"{SEED}\n", f"{SEED.upper()}\r\n", f"{SEED} \t\n\n", f"{SEED}{' 
 WRONG = ["", "\n", SEED[:-1], f"{SEED}0", SEED * 2, f" {SEED}", f"\n{SEED}", f"{SEED}\n#", f"g{SEED[1:]}", f"0x{SEED}"]
 WRONG += [f"{SEED[:32]}\n{SEED[32:]}", f"{SEED[2:]}\n\n"]
 TOO_LONG = f"{SEED}{' ' * 4096}"
+SEED_FORM = "bayeuxd: a seed has 64 hexadecimal digits"
 
 
 def expect_first_id(server, connection):
@@ -26,12 +27,12 @@ def expect_first_id(server, connection):
     assert SEED[:8] not in server.full_log().decode().lower()
 
 
-def expect_rejected(program, path):
-    """Checks that a daemon rejects the seed at `path`."""
+def expect_rejected(program, path, *more):
+    """Checks that a daemon rejects the seed at `path`. `more`: what else it prints."""
     status, output, errors = run(program, [*ANYWHERE, "--until-eof", "--seed-file", str(path)])
     assert (status, output) == (1, "")
     lines = without_times(errors.splitlines())
-    assert match(lines, cannot("cannot read the seed", str(path))), lines
+    assert match(lines, [*cannot("cannot read the seed", str(path)), *more]), lines
 
 
 @pytest.mark.parametrize("seed", RIGHT, ids=range(len(RIGHT)))
@@ -44,7 +45,7 @@ def test_client_ids_are_those_of_the_seed(daemon, client, tmp_path, seed):
 @pytest.mark.parametrize("seed", WRONG, ids=range(len(WRONG)))
 def test_wrong_seed_is_rejected(program, tmp_path, seed):
     (tmp_path / "seed").write_bytes(seed.encode())
-    expect_rejected(program, tmp_path / "seed")
+    expect_rejected(program, tmp_path / "seed", SEED_FORM)
 
 
 @pytest.mark.parametrize("path", ["/nowhere/seed", "/"])
@@ -75,6 +76,6 @@ def test_endless_seed_is_rejected(program, tmp_path):
     writer = os.open(path, os.O_RDWR | os.O_NONBLOCK)
     try:
         os.write(writer, TOO_LONG.encode())
-        expect_rejected(program, path)
+        expect_rejected(program, path, SEED_FORM)
     finally:
         os.close(writer)

@@ -106,7 +106,7 @@ def work_seconds(server, connection, session, count):
 
     def replace():
         for _ in range(20):
-            connection.ask([{"channel": "/meta/disconnect", **open_session(connection)}])
+            close_all(connection, [open_session(connection)])
 
     request, spent = [{"channel": "/nobody", "data": 0, **session}] * MOST_MESSAGES, []
     connection.renew()

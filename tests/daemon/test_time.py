@@ -8,7 +8,7 @@ from metrics import CONNECTS_HELD, FILED, OPEN, REQUESTS_HELD, SESSIONS, SWEPT, 
 CHANNEL = "/time"
 # The number of sessions and of shards.
 LIVE, SHARDS = 17, 16
-# After how many ticks an answer that nobody takes is dropped: a second if there are more than --sessions, otherwise a minute.
+# After how many ticks an answer that nobody takes is dropped: a second if there are more than live sessions, otherwise a minute.
 CROWDED, KEPT = 10, 600
 # The number of large answers, and their bytes.
 LARGE, BYTES = 32, 200_000
@@ -18,10 +18,9 @@ AHEAD, AGES = 50 * 86_400, 3600
 
 
 def leave_answers(server, client, sessions, ticks, events=(("/all", 1),)):
-    """Leaves an answer that nobody takes for each of `sessions`.
+    """Leaves an answer that nobody takes for each of `sessions`, and returns the number of ticks before these.
 
-    Their connects are held, their connections close, and then `events`, pairs of a channel and data, answer the connects. Returns the
-    number of ticks before these.
+    Their connects are held, their connections close, and then `events`, pairs of a channel and data, answer the connects.
     """
     server.expect({OPEN: 0}, pause=ticks.tick)
     connections = [client(server) for _ in sessions]
@@ -49,7 +48,7 @@ def open_subscribed(server, client, count):
 
 def test_older_ones_of_too_many_answers_are_dropped_within_a_second(daemon, client, ticks):
     """In each of 16 shards. No newer answer is dropped. As many answers as sessions are not too many."""
-    server = daemon("--shards", str(SHARDS), "--sessions", str(LIVE), env=ticks.env)
+    server = daemon("--shards", str(SHARDS), env=ticks.env)
     sessions = open_subscribed(server, client, LIVE)
     # If there are too many answers, the daemon keeps each for fewer ticks than this.
     ticks.tick(15)
@@ -69,7 +68,7 @@ def test_older_ones_of_too_many_answers_are_dropped_within_a_second(daemon, clie
 
 def test_answer_that_nobody_takes_is_kept_for_a_minute(daemon, client, ticks):
     """Then it is dropped, with the next tick. The uptime and the age of the session are those of the clock."""
-    server = daemon("--shards", "1", "--sessions", "1", env=ticks.env)
+    server = daemon("--shards", "1", env=ticks.env)
     (session,) = open_subscribed(server, client, 1)
     begun = ticks.seconds
     leave_answers(server, client, [session], ticks)

@@ -30,6 +30,7 @@ COURSES: dict[str, list[Course]] = {
     "BayeuxSlowTicks": [{"bayeux_ticks_total": (490, 470), UPTIME: (60, 60)}],
     "BayeuxSlowRequests": [{TIMED: (600, 601), SLOW: (600, 600)}],
     "BayeuxSessionsOverflow": [{ERROR.format("413::Queue overflow"): (0, 1)}],
+    "BayeuxRecordEnded": [{"bayeux_recording": (1, 0), "bayeux_record_bytes_total": (60, 60)}],
     # Few connections are none too many, even if there are hardly more responses.
     "BayeuxNobodyKeepsConnections": [{CONNECTED: (2900, 3100), ANSWERED: (6000, 6000)}, {CONNECTED: (50, 70), ANSWERED: (50, 80)}],
 }
@@ -39,9 +40,12 @@ BEGIN, END, LATE = 20, 50, 14
 OTHERS = {'up{job="other"}': "0x99", 'process_open_fds{job="other"}': "900x99", 'process_max_fds{job="other"}': "1000x99"}
 # The seconds since the start of a server that restarts at minute 20.
 RESTARTED = "0+60x19 5+60x49"
-# The alert for each error for which there is one, and the reasons of status 503 for which there is none, or another one.
-ALERTING_ERRORS = {"503::Too many sessions": "BayeuxHandshakesRejected", "413::Queue overflow": "BayeuxSessionsOverflow"}
-OTHER_REASONS = ("the answer is unavailable", "the server is shutting down")
+# The metrics with a reason or an error for which an alert fires. For those of no alert, none does.
+COUNTED = {
+    "BayeuxRequestsRefused": 'status="503",reason="(?!the answer is unavailable|the server is shutting down)',
+    "BayeuxHandshakesRejected": 'error="503::Too many sessions"',
+    "BayeuxSessionsOverflow": 'error="413::Queue overflow"',
+}
 RULES = read("packaging/alerts.yml")
 PANELS = json.loads(read("packaging/grafana.json"))["panels"]
 EXPRESSIONS = [it["expr"] for panel in PANELS for it in panel["targets"]]
@@ -101,17 +105,11 @@ def timed_tests(name: str) -> Iterator[dict]:
 
 def counted_tests(name: str, rows: list[str]) -> Iterator[dict]:
     """Yields tests with each reason and each error that a server counts: the alert fires for those that it is about."""
-    series = [it for it in rows if re.search('reason="' if name == "BayeuxRequestsRefused" else 'error="', it)]
-    if name == "BayeuxRequestsRefused":
-        firing = [it for it in series if 'status="503"' in it and not any(reason in it for reason in OTHER_REASONS)]
-    elif name in ALERTING_ERRORS.values():
-        firing = [it for it in series for error, alert in ALERTING_ERRORS.items() if error in it and alert == name]
-    else:
-        return
+    series = [it for it in rows if re.search('reason="|error="', it)]
+    firing = [it for it in series if re.search(COUNTED[name], it)]
     assert firing
     yield alert_test(name, {it: "0+9x20" for it in series if it not in firing}, (15, False))
-    for it in firing:
-        yield alert_test(name, {it: "0+9x20"}, (15, True))
+    yield from (alert_test(name, {it: "0+9x20"}, (15, True)) for it in firing)
 
 
 def promtool(*args: object) -> None:
@@ -123,7 +121,7 @@ def promtool(*args: object) -> None:
 @pytest.mark.parametrize("name", re.findall(r"- alert: (\w+)", RULES))
 def test_alert_fires_when_it_must_and_only_then(name: str, rows: list[str], need, tmp_path: Path) -> None:
     need("promtool")
-    tests = [*timed_tests(name), *counted_tests(name, rows)]
+    tests = [*timed_tests(name), *(counted_tests(name, rows) if name in COUNTED else ())]
     assert tests
     # JSON is valid YAML.
     text = json.dumps({"rule_files": [f"{TOP}/packaging/alerts.yml"], "evaluation_interval": "1m", "tests": tests})

@@ -11,6 +11,7 @@ from pathlib import Path
 
 import pytest
 from base import section, wait_until
+from metrics import CONNECTS_HELD
 from nginx import Nginx, adapt
 
 # The page of each recipe that is on another page than RECIPES.
@@ -43,14 +44,6 @@ def status_of(address: tuple[str, int], message: dict, by_script: bool = False) 
     return origin.status(f"/cometd?{query}", "GET") if by_script else origin.status(body=json.dumps([message]))
 
 
-def expect_talk(nginx: Nginx, path: str = "/cometd") -> None:
-    """Checks that an event reaches another client through nginx."""
-    ben, ann = nginx.handshake(path), nginx.handshake(path)
-    nginx.send(path, channel="/meta/subscribe", subscription="/a/*", clientId=ben)
-    nginx.send(path, channel="/a/b", data="Hello", clientId=ann)
-    assert nginx.send(path, **CONNECT, clientId=ben)[0] == {"channel": "/a/b", "data": "Hello"}
-
-
 @pytest.fixture
 def folder(tmp_path: Path) -> Path:
     """The folder of nginx's files, for files of the test. nginx can read it."""
@@ -58,13 +51,6 @@ def folder(tmp_path: Path) -> Path:
     for it in ("bayeux", "conf.d"):
         (tmp_path / "nginx/etc/nginx" / it).mkdir(parents=True)
     return tmp_path / "nginx"
-
-
-def test_location_for_all(server, recipe) -> None:
-    """The tests of nginx.conf, which includes the same location.conf, have its limits and header fields."""
-    nginx = recipe(block(FOR_ALL), server())
-    expect_talk(nginx)
-    assert [nginx.status(Origin=it) for it in (nginx.address, f"{nginx.address}.other.example")] == [200, 403]
 
 
 def test_users_need_their_password(server, recipe, need, folder: Path) -> None:
@@ -165,7 +151,7 @@ def test_curl_lines_of_the_readme_get_an_event(server, need) -> None:
     waits, publishes = re.findall(r"(?:^    .*\n)+", text, re.M)
     with subprocess.Popen(["bash", "-ec", waits], stdout=subprocess.PIPE, text=True) as shell:
         assert shell.stdout and '"successful":true' in shell.stdout.readline()
-        wait_until("the connect is held", lambda: found.scrape()["bayeux_connects_held", ""] == 1)
+        found.expect({CONNECTS_HELD: 1})
         printed = subprocess.run(["bash", "-ec", publishes], capture_output=True, text=True, check=True).stdout
         assert printed == '[{"channel":"/a","successful":true}]'
         assert [it.get("data") for it in json.loads(shell.stdout.readline())] == ["Hello", None]
@@ -217,7 +203,10 @@ def test_paths_lead_to_several_machines(server, recipe, folder: Path) -> None:
     (folder / "etc/nginx/conf.d/several.conf").write_text(adapt(block("Several machines"), folder, changes), encoding="utf-8")
     nginx = recipe(block("Several machines", at=1), folder=folder)
     for path in ("/cometd/chat", "/cometd/news", "/cometd/news/"):
-        expect_talk(nginx, path)
+        ben, ann = nginx.handshake(path), nginx.handshake(path)
+        nginx.send(path, channel="/meta/subscribe", subscription="/a/*", clientId=ben)
+        nginx.send(path, channel="/a/b", data="Hello", clientId=ann)
+        assert nginx.send(path, **CONNECT, clientId=ben)[0] == {"channel": "/a/b", "data": "Hello"}
     nginx.expect_kept_connection(chat, "/cometd/chat")
     nginx.expect_kept_connection(news, "/cometd/news")
     message = {**CONNECT, "advice": {"timeout": 0}, "clientId": nginx.handshake("/cometd/chat")}

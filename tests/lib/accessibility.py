@@ -59,4 +59,4 @@ def faults(window: Window) -> list[str]:
     window.emulate()
     shown = [it for it in window.driver.find_elements("css selector", NAMED) if it.is_displayed()]
     found += [f"has no name: {it.get_property('outerHTML')[:80]}" for it in shown if not it.accessible_name]
-    return found + [] if window.run("return document.documentElement.lang") and window.driver.title else [*found, "no language or no title"]
+    return found if window.run("return document.documentElement.lang") and window.driver.title else [*found, "no language or no title"]

@@ -1,5 +1,6 @@
 """What tests and benchmarks share: paths, pages, waiting, ports, processes, and a C compiler."""
 import contextlib
+import functools
 import os
 import pathlib
 import resource
@@ -24,11 +25,16 @@ def read(path):
     return (TOP / path).read_text(encoding="utf-8")
 
 
-def section(page, heading):
-    """Returns the text below a heading of the second level, up to the next one. `page`: a page's path from the top on.
+@functools.cache
+def tracked():
+    """Returns the paths of the files that Git has or would add, from the top on."""
+    args = ["git", "ls-files", "-co", "--exclude-standard"]
+    text = subprocess.run(args, cwd=TOP, check=True, stdout=subprocess.PIPE, text=True).stdout
+    return [it for it in text.splitlines() if (TOP / it).is_file()]
 
-    Raises `CheckFailed` if the page has no such heading.
-    """
+
+def section(page, heading):
+    """Returns the text below a heading of the second level of `page`, a path from the top on, up to the next one."""
     _, found, rest = read(page).partition(f"\n## {heading}\n")
     if not found:
         raise CheckFailed(f"{page} has no section {heading!r}")
@@ -36,11 +42,7 @@ def section(page, heading):
 
 
 def finish(main):
-    """Calls `main` and exits with the status that it returns.
-
-    The status is 130 after SIGINT and 143 after SIGTERM. Both raise an exception in `main`, so that
-    its `finally` blocks run.
-    """
+    """Calls `main`, and exits with its status, or with 130 after SIGINT and 143 after SIGTERM, which raise exceptions in `main`."""
     signal.signal(signal.SIGTERM, lambda *_: sys.exit(143))
     try:
         sys.exit(main())
@@ -55,10 +57,9 @@ def limit_file_size(size):
 
 
 def wait_until(what, condition, seconds=TIMEOUT_SECONDS, pause=0.02):
-    """Waits until `condition()` returns a true value, and returns that value.
+    """Waits until `condition()` returns a true value, and returns it. Raises `CheckFailed` after `seconds` seconds.
 
-    Raises `CheckFailed` after `seconds` seconds. `what`: the condition in words, for the message. `pause`: the seconds
-    between two looks.
+    `what`: the condition in words, for the message. `pause`: the seconds between two looks.
     """
     deadline = time.monotonic() + seconds
     while True:
@@ -95,10 +96,7 @@ def has_compiler():
 
 
 def compile_library(source, folder, *flags):
-    """Compiles a library that programs are to preload, and returns its path.
-
-    `source`: its C file, from the top on. `folder`: a folder for the library. `flags`: more flags of the compiler.
-    """
+    """Compiles `source`, a path from the top on, into a library in `folder` that programs can preload, and returns its path."""
     library = f"{folder}/{pathlib.Path(source).stem}.so"
     subprocess.run(["cc", "-O2", "-Wall", "-shared", "-fPIC", *flags, "-o", library, f"{TOP}/{source}"], check=True)
     return library
@@ -111,6 +109,13 @@ def has_loopback():
             return True
     except OSError:
         return False
+
+
+def has_ipv6():
+    """Returns `True` if a process can listen at the loopback address of IPv6."""
+    with contextlib.suppress(OSError), socket.create_server(("::1", 0), family=socket.AF_INET6):
+        return True
+    return False
 
 
 @contextlib.contextmanager

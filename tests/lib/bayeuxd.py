@@ -40,12 +40,13 @@ class Bayeuxd(Daemon):
     @functools.cached_property
     def metrics(self):
         """The address of the metrics listener."""
-        return self.metrics_address()
+        return self.logged_address("metrics listening address=")
 
     @functools.cached_property
     def readers(self):
-        """The address of the readers' listener."""
-        return self.readers_address()
+        """The address of the readers' listener, once the log has it."""
+        wait_until("the log has the address of readers", lambda: b"readers listening address=" in self.full_log())
+        return self.logged_address("readers listening address=")
 
     def scrape(self):
         """Returns the values of the page of metrics, by name and labels."""

@@ -4,7 +4,10 @@ from __future__ import annotations
 import contextlib
 import os
 import shutil
-from typing import Any
+import tempfile
+from typing import Any, Iterator
+
+import pytest
 
 from base import wait_until
 
@@ -53,8 +56,19 @@ class Browser:
         # The first window stays open, because a new window can only be requested from an open one.
         self.first = self.driver.current_window_handle
 
-    def end(self) -> None:
-        self.driver.quit()
+
+@contextlib.contextmanager
+def browsing() -> Iterator[Browser]:
+    """A `Browser`, which ends with the block. Skips the test if a package is missing."""
+    if missing_package():
+        pytest.skip(f"there is no {missing_package()}")
+    # The path is short, since sockets are in the folder.
+    with tempfile.TemporaryDirectory(prefix="gadzilk-browser-") as folder:
+        browser = Browser(folder)
+        try:
+            yield browser
+        finally:
+            browser.driver.quit()
 
 
 class Window:
@@ -100,9 +114,6 @@ class Window:
 
     def write(self, selector: str, text: str) -> None:
         self.element(selector).send_keys(text)
-
-    def value(self, selector: str) -> str:
-        return self.element(selector).get_property("value")
 
     def press(self, *keys: str) -> None:
         """Presses `keys` one after another. The element with the focus gets them."""

@@ -2,9 +2,8 @@
 import struct
 
 MASK = 0xFFFFFFFF
-# Published test vectors: the first block for a key of zeros, and the block of the example in
-# RFC 8439. The RFC's counter of 32 bits and nonce of 96 bits are here a counter of 64 bits and a
-# stream of 64 bits.
+# Published test vectors: the first block for a key of zeros, and the block of the example in RFC 8439, whose counter of 32 bits and
+# nonce of 96 bits are here a counter and a stream of 64 bits.
 ZEROS = "76b8e0ada0f13d90405d6ae55386bd28bdd219b8a08ded1aa836efcc8b770dc7da41597c5157488d7724e03fb8d84a376a43b8f41518a11cc387b669b2ee6586"
 EXAMPLE = "10f1e7e4d13b5915500fdd1fa32071c4c7d1f4c733c068030422aa9ac3d46c4ed2826446079faa0914c2d705d98b02a2b5129cd1de164eb9cbd083e8a2503c4e"
 
@@ -18,10 +17,7 @@ def turn(state, a, b, c, d):
 
 
 def block(key, counter, stream):
-    """Returns the 16 words of a block.
-
-    `key`: 32 bytes. `counter` and `stream`: 64-bit numbers. The first block has counter 0.
-    """
+    """Returns the 16 words of a block. `key`: 32 bytes. `counter`: from 0. `stream`: a number of 64 bits, as the counter."""
     start = [*struct.unpack("<4I", b"expand 32-byte k"), *struct.unpack("<8I", key), *struct.unpack("<4I", struct.pack("<2Q", counter, stream))]
     state = list(start)
     for _ in range(10):
@@ -33,11 +29,7 @@ def block(key, counter, stream):
 
 
 def drawn(seed, place):
-    """Returns nonce `place` of the daemon with this seed, as 32 hexadecimal digits.
-
-    `seed`: 64 hexadecimal digits. `place`: counts from 0. A nonce is two numbers of two words each;
-    the lower word comes first.
-    """
+    """Returns nonce `place`, from 0, of the daemon with this seed: two numbers of two words each, whose lower word comes first."""
     words = block(bytes.fromhex(seed), place // 4, 0)[place % 4 * 4 :][:4]
     return f"{words[1]:08x}{words[0]:08x}{words[3]:08x}{words[2]:08x}"
 

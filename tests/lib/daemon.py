@@ -1,4 +1,4 @@
-"""A daemon on a free port of loopback, a connection to it, and a line of progress."""
+"""A daemon that runs, connections to it, and requests and their responses."""
 import contextlib
 import ctypes
 import datetime
@@ -11,8 +11,6 @@ import resource
 import select
 import socket
 import struct
-import subprocess
-import tempfile
 import termios
 import time
 import urllib.parse
@@ -41,26 +39,16 @@ class ConnectionEnded(AssertionError):
 
 
 class Daemon:
-    """A running bayeuxd. A context manager that ends it. A subclass starts it with `begin`."""
+    """A running bayeuxd, which a subclass starts. A context manager that ends it.
+
+    `process`: its process. `errors`: the file to which it writes standard error.
+    """
 
     def __enter__(self):
         return self
 
     def __exit__(self, *_):
         self.end()
-
-    def begin(self, args, **streams):
-        """Starts the command line `args`, and waits until the daemon listens.
-
-        `streams`: keyword arguments of `Popen`.
-        """
-        self.start(args, **streams)
-        self.wait()
-
-    def start(self, args, **streams):
-        """Starts the command line `args`. Standard error goes to a temporary file."""
-        self.errors = tempfile.TemporaryFile()
-        self.process = subprocess.Popen(args, stdout=subprocess.PIPE, stderr=self.errors, start_new_session=True, **streams)
 
     def wait(self):
         """Waits for the first line of standard output, which must say that the daemon listens, and reads the address from it."""
@@ -74,15 +62,6 @@ class Daemon:
         found = re.search(f"{prefix}(\\S+):([0-9]+)$", self.full_log().decode(), re.MULTILINE)
         assert found, f"no line with {prefix!r}: {self.log_tail()!r}"
         return (found.group(1).strip("[]"), int(found.group(2)))
-
-    def readers_address(self):
-        """Waits until the log has the address of the readers' listener, and returns it."""
-        wait_until("the log has the address of readers", lambda: b"readers listening address=" in self.full_log())
-        return self.logged_address("readers listening address=")
-
-    def metrics_address(self):
-        """Returns the address of the metrics listener, which the log has when the daemon listens."""
-        return self.logged_address("metrics listening address=")
 
     def wait_for_log(self, pattern):
         """Waits until the last 2,000 bytes of the log match `pattern`, and returns the match."""
@@ -111,10 +90,13 @@ class Daemon:
         """Checks that the process runs."""
         assert self.process.poll() is None, f"status {self.process.returncode}: {self.log_tail()!r}"
 
+    def proc(self, name):
+        """Returns the text of a file that the system has of the process."""
+        return pathlib.Path(f"/proc/{self.process.pid}/{name}").read_text(encoding="utf-8", errors="replace")
+
     def kilobytes(self):
         """Returns the resident memory of the process, in units of 1,024 bytes."""
-        with open(f"/proc/{self.process.pid}/status", encoding="ascii") as text:
-            return int(next(line for line in text if line.startswith("VmRSS")).split()[1])
+        return int(re.findall(r"VmRSS:\s+([0-9]+)", self.proc("status"))[0])
 
     def descriptors(self):
         """Returns how many file descriptors the process has open."""
@@ -153,8 +135,7 @@ class Daemon:
     def is_waiting(self, thread):
         """Returns whether a thread of the process waits. Otherwise it runs, or needs a processor."""
         with contextlib.suppress(FileNotFoundError, ProcessLookupError):
-            text = pathlib.Path(f"/proc/{self.process.pid}/task/{thread}/stat").read_text(encoding="utf-8", errors="replace")
-            return text.rpartition(")")[2].split()[0] != "R"
+            return self.proc(f"task/{thread}/stat").rpartition(")")[2].split()[0] != "R"
         return True
 
     def wait_for_rest(self):
@@ -175,14 +156,12 @@ class Daemon:
 
     def processor_seconds(self):
         """Returns the processor time that the process has used so far, in seconds."""
-        with open(f"/proc/{self.process.pid}/stat", encoding="ascii") as text:
-            fields = text.read().rpartition(")")[2].split()
+        fields = self.proc("stat").rpartition(")")[2].split()
         return (int(fields[11]) + int(fields[12])) / os.sysconf("SC_CLK_TCK")
 
     def run_seconds(self):
         """Returns the processor time that the threads of the process have used so far, in seconds with nanoseconds."""
-        paths = [f"/proc/{self.process.pid}/task/{it}/schedstat" for it in self.threads()]
-        return sum(int(pathlib.Path(it).read_text(encoding="ascii").split()[0]) for it in paths) / 1e9
+        return sum(int(self.proc(f"task/{it}/schedstat").split()[0]) for it in self.threads()) / 1e9
 
     def expect_end(self):
         """Waits until the process has ended. Its status must be 0, and its log must end with `ended`."""
@@ -212,10 +191,9 @@ class Response:
 
 
 class Connection:
-    """A connection to a daemon.
+    """A connection to a daemon. A send or a read may take `timeout` seconds.
 
-    `timeout`: how long a send or a read may take, in seconds. After that it raises `AssertionError`.
-    `was_reset`: whether a read found that the daemon has reset the connection.
+    `input`: what arrived and was not read. `was_reset`: whether a read found that the daemon has reset the connection.
     """
 
     def __init__(self, address, timeout=TIMEOUT_SECONDS):
@@ -229,10 +207,7 @@ class Connection:
         self.input, self.was_reset = b"", False
 
     def renew(self):
-        """Opens the connection again if the daemon has ended it, as it does with one that is idle for 30 seconds.
-
-        No response may be outstanding.
-        """
+        """Opens the connection again if the daemon has ended an idle one. No response may be outstanding."""
         if select.select([self.socket], [], [], 0)[0]:
             self.socket.close()
             self.open()
@@ -279,10 +254,7 @@ class Connection:
         return bool(data)
 
     def response(self):
-        """Returns the next response.
-
-        Raises `ConnectionEnded` if the connection ends first. Only a 405 may omit its length.
-        """
+        """Returns the next response. Raises `ConnectionEnded` if the connection ends first. Only a 405 may omit its length."""
         while b"\r\n\r\n" not in self.input:
             if not self.receive():
                 raise ConnectionEnded(f"ended before a head was whole: {self.input[:200]!r}")
@@ -323,10 +295,7 @@ class Connection:
 
 
 class SlowReader(Connection):
-    """A connection over which the system takes little that its client does not read.
-
-    `buffer`: the bytes of the client's buffer. `segment`: the most bytes of a segment, or `None` for any number.
-    """
+    """A connection whose client has a `buffer` of few bytes, and segments of at most `segment` bytes, if given."""
 
     def __init__(self, address, buffer, segment=None):
         self.buffer, self.segment = buffer, segment
@@ -369,10 +338,9 @@ def by_callback(document, name=b"jsonp=called&"):
 
 
 def expect_status(connection, request, status, reason=None):
-    """Returns the body of the response to `request`, which must have this status.
+    """Returns the body of the response to `request`, which must have this status, and `reason` if it is given.
 
-    Only a 200 may have a body. A 405 must have the allowed methods. If `reason` is given, the response must have it. A 200 must have none.
-    A 200 must have a date, and so must an error of the server's own (RFC 9110, section 6.6.1).
+    Only a 200 has a body and no reason. A 405 has the allowed methods. Only an error of the library of HTTP may have no date.
     """
     connection.send(request)
     response = connection.response()
@@ -404,11 +372,7 @@ def expect_error(items, error):
 
 
 def open_session(connection, **extra):
-    """Opens a session by a handshake, and returns the member with its client id.
-
-    `extra`: more members of the handshake. Each later message of the session needs the returned
-    member.
-    """
+    """Opens a session, and returns the member with its client id. `extra`: more members of the handshake."""
     return {"clientId": expect_success(connection.ask([{**HANDSHAKE, **extra}]), 1)[0]["clientId"]}
 
 
@@ -442,10 +406,7 @@ def poll(connection, session):
 
 
 def hold_connect(address, channel):
-    """Returns a connection with a held connect. The session is subscribed to `channel`.
-
-    Does not wait until the daemon holds the connect.
-    """
+    """Returns a connection with a connect of a session that is subscribed to `channel`, which need not be held yet."""
     connection = Connection(address)
     session = open_session(connection)
     subscribe(connection, channel, session)
@@ -454,16 +415,14 @@ def hold_connect(address, channel):
 
 
 def check_serves(address, channel):
-    """Checks that the daemon serves a well-behaved client, which publishes to `channel`.
-
-    The client subscribes, publishes, gets its event, and disconnects.
-    """
+    """Checks that the daemon serves a client, which subscribes to `channel`, publishes, gets its event, and disconnects."""
     with Connection(address) as connection:
         session = open_session(connection)
         subscribe(connection, channel, session)
-        expect_success(connection.ask([{"channel": channel, "data": {"right": channel}, "id": "p", **session}]), 1)
+        event = {"channel": channel, "data": {"right": channel}, "id": "p"}
+        expect_success(connection.ask([{**event, **session}]), 1)
         items = connection.ask([{**CONNECT, "id": 7, **session}])
-        expect_events(items, [{"channel": channel, "data": {"right": channel}, "id": "p"}])
+        expect_events(items, [event])
         assert items[-1]["id"] == 7, items
         expect_success(connection.ask([{"channel": "/meta/disconnect", **session}]), 1)
 

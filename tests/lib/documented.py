@@ -5,10 +5,7 @@ from base import read, section
 
 
 def documented_flags():
-    """Returns what docs/CONFIGURE.md has of each flag, by name.
-
-    The values are its argument or "", its default, its greatest value or "", and its text in lower case.
-    """
+    """Returns of each flag in docs/CONFIGURE.md its argument or "", its default, its greatest value or "", and its text in lower case."""
     item = r"^- `--([a-z-]+)(?: ([A-Z]+))?` \((`[^`]+`|[^;:)]+)(?:[;:] ([^)]*))?\): (.*(?:\n  .*)*)"
     found = {}
     for name, argument, default, more, text in re.findall(item, section("docs/CONFIGURE.md", "Flags"), re.MULTILINE):

@@ -3,15 +3,14 @@
 Whether a document is valid JSON is decided by Python's own parser.
 """
 import json
+import math
 import re
 import urllib.parse
 
 from daemon import MOST_MESSAGES, post
 
 DEPTH = 127
-LIMIT = 1 << 20
-# The most bytes of a query. The library that reads heads rejects request lines that are longer
-# than some 64 KiB, with status 414.
+# The most bytes of a query. The library of HTTP rejects request lines of more than some 64 KiB.
 HEAD = 60000
 ERROR = re.compile(r"[0-9]{3}::.+")
 NAME = re.compile(r"[A-Za-z0-9_$.\-\[\]]{1,256}")
@@ -28,31 +27,15 @@ TOKENS = [
 ]
 
 
-class InvalidDocument(Exception):
-    """The document is not valid."""
-
-
-def number(text, kind):
-    """Converts `text` with `kind`, which is `int` or `float`.
-
-    Raises `InvalidDocument` if the number is outside the range of a double, as the daemon does.
-    """
-    if float(text) in (float("inf"), float("-inf")):
-        raise InvalidDocument(text[:20])
-    return kind(text)
-
-
-def reject_constant(text):
-    """Raises `InvalidDocument`: `text` is a constant that Python reads and JSON does not have."""
-    raise InvalidDocument(text)
+def finite(text):
+    """Converts a number. Raises `ValueError` if it is outside the range of a double, or a constant that JSON does not have."""
+    if not math.isfinite(float(text)):
+        raise ValueError(text[:20])
+    return float(text)
 
 
 def members(pairs):
-    """Returns the object with the members `pairs`.
-
-    Raises `UnicodeEncodeError` if a string is not valid Unicode. This includes strings of members
-    that a later member of the same name replaces.
-    """
+    """Returns the object with the members `pairs`. Raises `UnicodeEncodeError` if a string is not valid Unicode, also of one that is replaced."""
     json.dumps(pairs, ensure_ascii=False).encode("utf-8")
     return dict(pairs)
 
@@ -70,10 +53,10 @@ def messages_of(body):
     """Returns the messages of the document `body`, or `None` if the daemon must reject it."""
     try:
         text = body.decode("utf-8")
-        kinds = {"parse_float": lambda it: number(it, float), "parse_int": lambda it: number(it, int)}
-        read = json.loads(text, parse_constant=reject_constant, object_pairs_hook=members, **kinds)
+        kinds = {"parse_constant": finite, "parse_float": finite, "parse_int": lambda it: int(it) if finite(it) else 0}
+        read = json.loads(text, object_pairs_hook=members, **kinds)
         json.dumps(read, ensure_ascii=False).encode("utf-8")
-    except (ValueError, RecursionError, InvalidDocument):
+    except (ValueError, RecursionError):
         return None
     found = [read] if isinstance(read, dict) else read
     if depth(text) > DEPTH or not isinstance(found, list) or not all(isinstance(it, dict) for it in found):
@@ -84,10 +67,7 @@ def messages_of(body):
 
 
 def joined(bodies):
-    """Returns the messages of all documents in `bodies`, in order.
-
-    Returns `None` if one document is not valid, or if there are too many messages.
-    """
+    """Returns the messages of all documents in `bodies`, or `None` if one is not valid, or if there are too many messages."""
     found = [messages_of(body) for body in bodies]
     if None in found or sum(len(it) for it in found) > MOST_MESSAGES:
         return None
@@ -127,10 +107,7 @@ def check_post(messages, response):
 
 
 def check_call(name, messages, response):
-    """Checks that `response` calls the callback `name` with the answer to `messages`.
-
-    `messages` is `None` if a document is not valid. The status must then be 400, and also if `name` is not valid.
-    """
+    """Checks that `response` calls `name` with the answer to `messages`, or is a 400 if `name` is not valid or `messages` is `None`."""
     is_valid = messages is not None and NAME.fullmatch(name)
     check_status(response, 200 if is_valid else 400)
     if is_valid:
@@ -140,10 +117,7 @@ def check_call(name, messages, response):
 
 
 def message(random, clients, wrong=0.2):
-    """Returns a random message of one of `clients`.
-
-    With probability `wrong`, one member gets an arbitrary value.
-    """
+    """Returns a random message of one of `clients`. With probability `wrong`, one member gets an arbitrary value."""
     channel = random.choice(CHANNELS[: random.choice((5, 9, len(CHANNELS)))])
     made = {"channel": channel, "clientId": random.choice(clients)}
     if channel == "/meta/handshake":
@@ -209,21 +183,13 @@ def some(random, clients):
 
 
 def escaped(random, text):
-    """Returns `text` with percent-encoding.
-
-    Brackets, colons, commas and slashes sometimes stay as they are.
-    """
+    """Returns `text` with percent-encoding. Brackets, colons, commas and slashes sometimes stay as they are."""
     return urllib.parse.quote_from_bytes(text, safe=random.choice(("", "[]:,/"))).encode()
 
 
 def parameters(random, clients):
-    """Returns a random query.
-
-    It has up to three documents, often the name of a callback, and sometimes other parameters.
-    """
-    parts = []
-    for _ in range(random.choice((0, 1, 1, 1, 2, 3))):
-        parts.append(b"message=" + escaped(random, some(random, clients)))
+    """Returns a random query: up to three documents, often the name of a callback, and sometimes other parameters."""
+    parts = [b"message=" + escaped(random, some(random, clients)) for _ in range(random.choice((0, 1, 1, 1, 2, 3)))]
     if random.random() < 0.7:
         names = ("cb", "a.b[0]$_-", "", "x y", "a(b", "n" * 256, "n" * 257, "\u00e9", "jsonp")
         parts.append(b"jsonp=" + escaped(random, random.choice(names).encode()))
@@ -233,10 +199,7 @@ def parameters(random, clients):
 
 
 def read_parameters(query):
-    """Returns the name of the callback and the messages of `query`.
-
-    The messages are `None` if there is no document, or if one is not valid.
-    """
+    """Returns the name of the callback and the messages of `query`, or `None` if there is no document, or one is not valid."""
     pairs = urllib.parse.parse_qsl(query.decode(), keep_blank_values=True, errors="replace")
     names = [value for name, value in pairs if name == "jsonp"]
     bodies = [value.encode() for name, value in pairs if name == "message"]
@@ -260,10 +223,7 @@ def form_case(random, clients):
 
 
 def get_case(random, clients):
-    """Returns a GET with a random query, and a function that checks the response.
-
-    The query has at most `HEAD` bytes.
-    """
+    """Returns a GET with a random query of at most `HEAD` bytes, and a function that checks the response."""
     query = parameters(random, clients)
     while len(query) > HEAD:
         query = parameters(random, clients)
@@ -278,20 +238,3 @@ def nested_case(random, _clients):
     body = body[: -random.choice((0, 0, 0, 1, 2, levels)) or None]
     messages = messages_of(body)
     return post(body), lambda it: check_post(messages, it)
-
-
-def route_case(random, _clients):
-    """Returns a request with a random path and method, and a function that checks the response.
-
-    The request has no body.
-    """
-    method = random.choice((b"GET", b"POST", b"PUT", b"DELETE", b"OPTIONS", b"PATCH", b"FOO", b"get", b"TRACE"))
-    path = random.choice((b"/cometd", b"/cometd/x", b"/", b"/cometdx", b"/COMETD", b"/comet%64", b"//cometd", b"/cometd/../x", b"/x?cometd"))
-    is_served = path == b"/cometd" or path.startswith(b"/cometd/")
-    status = 404 if not is_served else 400 if method in (b"GET", b"POST") else 405
-
-    def check(response):
-        check_status(response, status)
-        assert status != 405 or response.fields.get(b"allow") == b"GET, POST"
-
-    return b"%s %s HTTP/1.1\r\nhost: h\r\ncontent-length: 0\r\n\r\n" % (method, path), check

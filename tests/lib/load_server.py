@@ -25,8 +25,9 @@ HOLD, STEP, MOST_MESSAGES = 0.1, 0.001, 2_000
 NEVER = 1 << 62
 
 
-def response_of(body: bytes, status: bytes = b"200 OK", version: bytes = b"HTTP/1.1") -> bytes:
-    """Returns a response with a `content-length`."""
+def response_of(content: object, status: bytes = b"200 OK", version: bytes = b"HTTP/1.1") -> bytes:
+    """Returns a response with `content`: bytes, or what is sent as JSON."""
+    body = content if isinstance(content, bytes) else json.dumps(content).encode()
     return b"%s %s\r\ncontent-type: application/json\r\ncontent-length: %d\r\n\r\n" % (version, status, len(body)) + body
 
 
@@ -54,13 +55,14 @@ class Session:
 class Server(socketserver.ThreadingTCPServer):
     """A Bayeux server. It does what `deed` names with the event that has the number WRONG, and keeps what it was sent.
 
-    `clock`: that of the load. `messages`: the messages in order, each with the time of its arrival and the time directly before its
-    response, or `None` before. `heads`: the heads of all requests. `delivered`: the events in responses, in order, each with the
-    time directly before its response. `taken`: by client id, when the session sent its connects. Times are those of the clock, in
-    seconds. A subclass may change `publish`, `before` or `send`.
+    `messages`: each with the times of its arrival and directly before its response, or `None`. `heads`: those of all requests.
+    `delivered`: the events in responses, each with the time directly before its response. `taken`: by client id, when the session
+    sent its connects. Times are those of `clock`, the load's, in seconds. A subclass may change `publish`, `before` or `send`.
     """
 
     daemon_threads, allow_reuse_address, request_queue_size = True, True, 512
+    # The most events of a response.
+    most_events = 100
 
     def __init__(self, clock: Clock, deed: str = "pass") -> None:
         super().__init__(("127.0.0.1", 0), Handler)
@@ -112,7 +114,7 @@ class Server(socketserver.ThreadingTCPServer):
         if not session.outstanding:
             if message.get("advice", {}).get("timeout") != 0:
                 self.changed.wait_for(lambda: bool(session.events), HOLD)
-            session.outstanding, session.events = session.events, []
+            session.outstanding, session.events = session.events[: self.most_events], session.events[self.most_events :]
             session.batch += bool(session.outstanding)
         return session.outstanding, {"ext": {"ack": session.batch}} if session.is_acknowledging else {}
 
@@ -146,7 +148,7 @@ class Server(socketserver.ThreadingTCPServer):
 
     def send(self, connection: socket.socket, message: dict, items: list[dict]) -> bool:
         """Sends the response to `message`. Returns `False` if the connection ends."""
-        connection.sendall(response_of(json.dumps(items).encode()))
+        connection.sendall(response_of(items))
         return True
 
     def kinds(self, *kinds: str) -> list:

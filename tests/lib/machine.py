@@ -11,6 +11,7 @@ import shutil
 import signal
 import subprocess
 
+import pytest
 from base import wait_until
 
 # Where the installed Debian is kept, since each container only reads it.
@@ -27,25 +28,21 @@ NEW_NETWORK = 0x40000000
 COMMAND_SECONDS = 1800
 
 
-class CannotRun(Exception):
-    """There can be no container on this machine. The message says why."""
-
-
 def release():
-    """Returns the code name of this machine's Debian. Raises `CannotRun` if it is another system."""
+    """Returns the code name of this machine's Debian. Skips the test if it is another system."""
     fields = platform.freedesktop_os_release()
     if fields["ID"] != "debian":
-        raise CannotRun("this machine has no Debian, whose release would be taken")
+        pytest.skip("this machine has no Debian, whose release would be taken")
     return fields["VERSION_CODENAME"]
 
 
 def find_system():
-    """Returns the folder of the Debian, which is installed if it is not there. Raises `CannotRun` if it cannot be."""
+    """Returns the folder of the Debian, which is installed if it is not there. Skips the test if it cannot be."""
     if os.geteuid() != 0:
-        raise CannotRun("only root can start a container")
+        pytest.skip("only root can start a container")
     for tool, package in TOOLS.items():
         if not shutil.which(tool):
-            raise CannotRun(f"there is no {tool} (package {package})")
+            pytest.skip(f"there is no {tool} (package {package})")
     args = ["mmdebstrap", "--quiet", "--variant=minbase", f"--include={INSTALLED}", "--skip=cleanup/apt", "--aptopt=Acquire::Languages \"none\""]
     args += [f"--customize-hook=chroot \"$1\" sh -c '{DOWNLOAD} && rm {UPDATED}'", release()]
     os.makedirs(FOLDER, mode=0o755, exist_ok=True)
@@ -56,7 +53,7 @@ def find_system():
             shutil.rmtree(f"{FOLDER}/new", ignore_errors=True)
             result = subprocess.run([*args, f"{FOLDER}/new"], stdin=subprocess.DEVNULL, capture_output=True, text=True, check=False)
             if result.returncode != 0:
-                raise CannotRun(f"mmdebstrap ended with status {result.returncode}: {result.stderr.strip()[-300:]}")
+                pytest.skip(f"mmdebstrap ended with status {result.returncode}: {result.stderr.strip()[-300:]}")
             os.rename(f"{FOLDER}/new", system)
     return system
 
@@ -65,7 +62,7 @@ class Machine:
     """A running container. `folder`: for its log. `root`: the folder of its files, as this machine sees them."""
 
     def __init__(self, folder):
-        """Starts a container, and waits until its systemd has started. Raises `CannotRun` if it cannot be started."""
+        """Starts a container, and waits until its systemd has started. Skips the test if it cannot be started."""
         # If this process is killed, systemd-nspawn shuts the container down.
         args = ["setpriv", "--pdeathsig", "TERM", "systemd-nspawn", "--quiet", "--register=no", "--keep-unit", "--boot", "--console=pipe"]
         args += ["--read-only", "--volatile=overlay", "--private-network", "--resolv-conf=off", "--timezone=off"]
@@ -77,14 +74,13 @@ class Machine:
             self.process = subprocess.Popen(args, stdin=subprocess.DEVNULL, stdout=log, stderr=log, pass_fds=[lock.fileno()])
         try:
             self.wait("the container runs", lambda: self.process.poll() is not None or self.has_started())
-        except AssertionError as error:
+        except BaseException as error:
             self.end()
-            raise CannotRun("systemd does not start in a container") from error
-        except BaseException:
-            self.end()
+            if isinstance(error, AssertionError):
+                pytest.skip("systemd does not start in a container")
             raise
         if self.process.poll() is not None:
-            raise CannotRun(f"systemd-nspawn: {self.log.read_text(encoding='utf-8').strip()[-300:]}")
+            pytest.skip(f"systemd-nspawn: {self.log.read_text(encoding='utf-8').strip()[-300:]}")
         self.root = pathlib.Path(f"/proc/{self.init}/root")
 
     @property

@@ -100,56 +100,32 @@ def overflows():
 def limits():
     """Yields two sessions for which the greatest number of events waits. One more overflows the one that has fetched none."""
     for limit in (1_025, 65_536):
+        counts = [256] * (limit // 256) + [limit % 256]
         script = "0 P [<handshake>]\n0 P [<handshake>]\n0 P [<subscribe 1 /a/b>,<subscribe 2 /a/b>]\n"
-        expected = "1 200 [<opened 1>]\n2 200 [<opened 2>]\n3 200 [<subscribed 1 /a/b>,<subscribed 2 /a/b>]\n"
-        line = 4
-        for count in [256] * (limit // 256) + [limit % 256]:
-            script += f"0 P [{listed('<publish 1 /a/b 1>', count)}]\n"
-            expected += f"{line} 200 [{listed('<published /a/b>', count)}]\n"
-            line += 1
-        events = listed("<event /a/b 1>", 256)
+        script += "".join(f"0 P [{listed('<publish 1 /a/b 1>', count)}]\n" for count in counts)
         script += "0 P [<poll 1>]\n0 P [<publish 1 /a/b 2>]\n0 P [<poll 2>]\n0 P [<poll 1>]\n"
+        expected = "1 200 [<opened 1>]\n2 200 [<opened 2>]\n3 200 [<subscribed 1 /a/b>,<subscribed 2 /a/b>]\n"
+        expected += "".join(f"{line} 200 [{listed('<published /a/b>', count)}]\n" for line, count in enumerate(counts, 4))
+        line, events = 4 + len(counts), listed("<event /a/b 1>", 256)
         expected += f"{line} 200 [{events},<connected 1>]\n{line + 1} 200 [<published /a/b>]\n{line + 2} 200 [<overflowed 2>]\n"
         yield f"{limit} events may wait", script, f"{expected}{line + 3} 200 [{events},<connected 1>]\n", f".. - {limit}"
 
 
-def crowds():
-    """Yields a rider, and a connect that is held until its event, after enough handshakes to give several workers work."""
-    script = "0 P [<handshake>]\n" * 1_024
-    expected = "".join(f"{line} 200 [<opened {line:x}>]\n" for line in range(1, 1_025))
-    lines = (
-        ("0 P [<handshake>]\n", "1025 200 [<opened 401>]\n"),
-        ("0 P [<handshake>]\n", "1026 200 [<opened 402>]\n"),
-        ("0 P [<subscribe 401 /a/*>]\n", "1027 200 [<subscribed 401 /a/*>]\n"),
-    )
-    script += "".join(asked for asked, _ in lines)
-    expected += "".join(printed for _, printed in lines)
-    yield "no connect is held behind a crowd", script, expected
-    yield (
-        "a rider gets its events behind a crowd",
-        f"{script}10 P [<publish 402 /a/b 7>]\n10 P [<publish 401 /a/c 8>]\n",
-        f"{expected}1028 200 [<published /a/b>]\n1029 200 [<event /a/b 7>,<event /a/c 8>,<published /a/c>]\n",
-        ".. r",
-    )
-    script += "10 P [<connect 401>]\n"
-    yield "a connect is held behind a crowd", script, f"{expected}1028 held\n"
-    yield (
-        "a held connect gets its event behind a crowd",
-        f"{script}20 P [<publish 402 /a/b 7>]\n",
-        f"{expected}1028 200 [<event /a/b 7>,<connected 401>]\n1029 200 [<published /a/b>]\n",
-    )
+def numbered(text, numbers):
+    """Returns a line for each of `numbers`. `text`: the line, with N in place of the number, and X of its hexadecimal digits."""
+    return "".join(text.replace("N", f"{it}").replace("X", f"{it:x}") + "\n" for it in numbers)
 
 
 def audiences():
     """Yields a publish to which 5,000 sessions are subscribed: the first and the last one get its event."""
     count = 5_000
-    script = "0 P [<handshake>]\n" * count + "".join(f"0 P [<subscribe {number:x} /a/b>]\n" for number in range(1, count + 1))
-    expected = "".join(f"{number} 200 [<opened {number:x}>]\n" for number in range(1, count + 1))
-    expected += "".join(f"{count + number} 200 [<subscribed {number:x} /a/b>]\n" for number in range(1, count + 1))
+    numbers = range(1, count + 1)
+    script = numbered("0 P [<handshake>]", numbers) + numbered("0 P [<subscribe X /a/b>]", numbers)
     script += f"0 P [<publish 1 /a/b 7>]\n0 P [<poll 1>]\n0 P [<poll {count:x}>]\n"
-    line = 2 * count + 1
-    expected += f"{line} 200 [<published /a/b>]\n{line + 1} 200 [<event /a/b 7>,<connected 1>]\n"
-    expected += f"{line + 2} 200 [<event /a/b 7>,<connected {count:x}>]\n"
+    expected = numbered("N 200 [<opened X>]", numbers)
+    expected += "".join(f"{count + it} 200 [<subscribed {it:x} /a/b>]\n" for it in numbers)
+    line, event = 2 * count + 1, "<event /a/b 7>"
+    expected += f"{line} 200 [<published /a/b>]\n{line + 1} 200 [{event},<connected 1>]\n{line + 2} 200 [{event},<connected {count:x}>]\n"
     yield f"{count} sessions hear a publish", script, expected
 
 
@@ -176,4 +152,4 @@ def long_arrays():
 
 # The functions that make rows. Each yields names, scripts and expected outputs, and arguments if the row has some. The texts may have
 # words in angle brackets (words.txt).
-MAKERS = (ends, million_lines, fronts, overflows, limits, crowds, audiences, holds, long_arrays)
+MAKERS = (ends, million_lines, fronts, overflows, limits, audiences, holds, long_arrays)

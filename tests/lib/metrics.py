@@ -17,10 +17,7 @@ SAMPLE = re.compile(r'([a-z_]+)(|\{[a-z]+="[^"\\]+"(?:,[a-z]+="[^"\\]+")*\}) ([0
 
 
 def ask_for(address, request):
-    """Sends `request` to the metrics listener at `address`, and returns the response.
-
-    There must be one before the listener ends the connection without a reset.
-    """
+    """Sends `request` to the metrics listener at `address`, which sends a response and ends the connection. Returns the response."""
     with Connection(address) as connection:
         connection.send(request)
         responses = connection.read_to_end()
@@ -57,7 +54,7 @@ def scrape(address):
 def read_list(address, path):
     """Returns the items of the list at `path` of the metrics listener at `address`."""
     response = ask_for(address, get(b"", path))
-    assert (response.status, response.fields[b"content-type"]) == (200, b"application/x-ndjson")
+    assert (response.status, response.fields[b"content-type"]) == (200, b"text/plain; charset=utf-8")
     assert response.body[-1:] in (b"", b"\n")
     return [json.loads(line) for line in response.body.splitlines()]
 
@@ -75,8 +72,7 @@ def expect_values(address, expected, pause=lambda: time.sleep(0.02)):
 def wait_for_metrics(address, fault_of, pause=lambda: time.sleep(0.02)):
     """Waits until the metrics are right, and returns all values.
 
-    `fault_of`: a function of the values that returns a text about what is wrong, or an empty text. `pause`: is called between two looks.
-    With a `Clock` that has ticks, it is that clock's `tick`.
+    `fault_of`: returns what is wrong with them, or "". `pause`: is called between two looks, such as the `tick` of a `Clock`.
     """
     end, wrong = time.monotonic() + TIMEOUT_SECONDS, ""
     while True:

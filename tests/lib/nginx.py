@@ -6,12 +6,11 @@ import json
 import os
 import pathlib
 import re
-import socket
 import ssl
 import subprocess
 import urllib.parse
 
-from base import TIMEOUT_SECONDS, TOP, can_connect, end, read, reserved_port, wait_until
+from base import TIMEOUT_SECONDS, TOP, can_connect, end, has_ipv6, read, reserved_port, wait_until
 from daemon import HANDSHAKE
 
 # How many requests nginx must send over one connection.
@@ -21,10 +20,7 @@ CHANGING = {"Date", "Content-Length", "Connection", "Last-Modified", "ETag"}
 
 
 def write_configuration(folder, main, changes):
-    """Writes the configuration `main`, and bayeux.conf and location.conf, below `folder`, in place of the system's folders.
-
-    `changes`: new texts by old texts of the three files. Fails if an old text is in none of them.
-    """
+    """Writes `main`, bayeux.conf and location.conf below `folder`. `changes`: new texts by old texts, each of which one of them has."""
     for it in ("etc/nginx/conf.d", "etc/nginx/bayeux", "var/log/nginx"):
         os.makedirs(f"{folder}/{it}", exist_ok=True)
     texts = {"nginx.conf": main}
@@ -49,13 +45,6 @@ def own_changes(upstream, plain, secure, folder):
         changes[f"listen {old}"] = f"listen 127.0.0.1:{port}"
         changes[f"listen [::]:{old}"] = f"listen [::1]:{port}" if has_ipv6() else f"listen unix:{folder}/{port}"
     return {**changes, "127.0.0.1:8087": f"127.0.0.1:{upstream}", "bayeux.example": "localhost", "http {\n": "http {\n" + temporary(folder)}
-
-
-def has_ipv6():
-    """Returns `True` if this machine has IPv6's loopback."""
-    with contextlib.suppress(OSError), socket.create_server(("::1", 0), family=socket.AF_INET6):
-        return True
-    return False
 
 
 def adapt(text, folder, changes):
@@ -142,10 +131,7 @@ def running(folder, port):
 
 @contextlib.contextmanager
 def serving(upstream, folder, changes):
-    """Runs nginx with nginx.conf in front of the server at port `upstream`, and yields the address of nginx.
-
-    `folder`: for the files of nginx. `changes`: new texts by old texts of the configuration.
-    """
+    """Runs nginx with nginx.conf, with `changes`, in front of the server at port `upstream`, and yields the address of nginx."""
     with reserved_port() as plain, reserved_port() as secure:
         write_configuration(folder, read("packaging/nginx/nginx.conf"), {**own_changes(upstream, plain, secure, folder), **changes})
         place = f"{folder}/etc/nginx/bayeux"
@@ -157,10 +143,7 @@ def serving(upstream, folder, changes):
 
 @contextlib.contextmanager
 def serving_recipe(folder, recipe, changes, shared):
-    """Runs nginx with a recipe, and yields an `Nginx`. `recipe`: the text of server blocks. The system's folders are below `folder`.
-
-    `changes`: new texts by old texts of the recipe. `shared`: those of bayeux.conf and location.conf.
-    """
+    """Runs nginx with `recipe`, the text of server blocks, with `changes`, and yields an `Nginx`. `shared`: changes of the other files."""
     os.makedirs(f"{folder}/var/www/members", exist_ok=True)
     for page in ("index.html", "members/index.html"):
         pathlib.Path(folder, "var/www", page).write_text("a page", encoding="ascii")

@@ -6,15 +6,13 @@ from typing import Any
 from base import wait_until
 from browser import ENTER, Browser, Window
 
-# Starts a client that records its events, and the moment of each gap. `arguments`: its patterns and its options.
+# Starts a client that records the data of its events, and the moment of each gap in milliseconds. `arguments`: patterns and options.
 NEW_CLIENT = """
-const [patterns, options] = arguments, client = new BayeuxClient('/cometd', options), log = [], states = [];
-client.addEventListener('gap', ({ since }) => log.push({ since: since.getTime() }));
-client.addEventListener('state', ({ state, why }) => states.push(why || state));
-for (const pattern of patterns) client.subscribe(pattern, (data) => log.push(data));
+const [patterns, options] = arguments, client = new BayeuxClient('/cometd', options), seen = [], gaps = [];
+client.addEventListener('gap', ({ since }) => gaps.push(since.getTime()));
+for (const pattern of patterns) client.subscribe(pattern, (data) => seen.push(data));
 client.start();
-(window.clients ||= []).push({ client, log, states });
-return clients.length - 1;
+return (window.clients ||= []).push(Object.assign(client, { seen, gaps })) - 1;
 """
 
 
@@ -43,15 +41,14 @@ class Chat(Window):
         wait_until(f"a notice has {words}", lambda: any(all(it in notice for it in words) for notice in self.texts(".notice")))
 
 
-def talk(ann: Chat, ben: Chat) -> list[str]:
-    """Checks that both windows show each message, as plain text. Returns the messages."""
+def talk(ann: Chat, ben: Chat) -> None:
+    """Checks that both windows show each message, as plain text."""
     texts = ["Hello Ben! Do you read this?", "I do. Two windows, and one server between them.", 'Shown as text: <b>1 < 2</b> & "so on"']
     ann.wait_notice("Ben", "joined")
     for writer, count in ((ann, 1), (ben, 2), (ann, 3)):
         writer.send(texts[count - 1])
         for chat in (ann, ben):
             chat.wait_messages(texts[:count])
-    return texts
 
 
 class Client:
@@ -61,38 +58,26 @@ class Client:
         self.window = window
         self.index = window.run(NEW_CLIENT, patterns, options)
 
-    def run(self, expression: str) -> Any:
-        """Returns the value of `expression`, a member of the client or a call."""
-        return self.window.run(f"return clients[{self.index}].client.{expression}")
+    def run(self, expression: str, *arguments: object) -> Any:
+        """Returns the value of `expression`, a member of the client or a call, which may have `arguments`."""
+        return self.window.run(f"return clients[{self.index}].{expression}", *arguments)
 
     @property
-    def state(self) -> str:
-        return self.run("state")
-
-    @property
-    def log(self) -> list:
-        """The events so far, and for each gap `{"since": MILLISECONDS}`."""
-        return self.window.run(f"return clients[{self.index}].log")
-
-    @property
-    def states(self) -> list[str]:
-        """The states so far, or the reason of each one that has a reason."""
-        return self.window.run(f"return clients[{self.index}].states")
-
-    def gaps(self) -> list[int]:
-        """Returns the moment of each gap, in milliseconds."""
-        return [it["since"] for it in self.log if isinstance(it, dict)]
-
     def events(self) -> list:
-        return [it for it in self.log if not isinstance(it, dict)]
+        """The data of all events so far."""
+        return self.run("seen")
+
+    @property
+    def gaps(self) -> list[int]:
+        """The moment of each gap, in milliseconds."""
+        return self.run("gaps")
 
     def wait_state(self, state: str) -> None:
-        wait_until(f"the client is {state}", lambda: self.state == state)
+        wait_until(f"the client is {state}", lambda: self.run("state") == state)
 
     def wait_event(self, event: object) -> None:
-        wait_until(f"the event {event!r}", lambda: event in self.log)
+        wait_until(f"the event {event!r}", lambda: event in self.events)
 
     def publish(self, channel: str, data: object) -> str:
         """Returns "published", or the message of the error."""
-        outcome = "then(() => 'published', ({ message }) => message)"
-        return self.window.run(f"return clients[{self.index}].client.publish(...arguments).{outcome}", channel, data)
+        return self.run("publish(...arguments).then(() => 'published', ({ message }) => message)", channel, data)

@@ -1,7 +1,6 @@
 """Reads Rattle sources: their words, numbers and signs, without comments, texts, and what only the prover reads."""
 from __future__ import annotations
 
-import os
 import re
 from typing import NamedTuple
 
@@ -100,14 +99,3 @@ def read(path: str) -> list[Item]:
     """Returns the items of the file `path` that are run outside tests."""
     with open(path, encoding="utf-8") as file:
         return program(grouped(tokens(file.read())[::-1]))
-
-
-def is_of_tests(path: str) -> bool:
-    """Returns `True` if `path` is a file of tests inside a crate."""
-    return re.search(r"/(\w+_)?tests(\.rt$|/)", path) is not None
-
-
-def sources(crate: str) -> list[str]:
-    """Returns the paths of the sources of the crate in the folder `crate`, without its tests, sorted."""
-    files = [f"{at}/{name}" for at, _, names in os.walk(f"{crate}/src") for name in names]
-    return sorted(it for it in files if it.endswith(".rt") and not is_of_tests(it[len(crate) :]))

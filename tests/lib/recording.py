@@ -14,10 +14,7 @@ REPLAY_RECORD = f"{TOP}/scripts/replay_record"
 
 
 class Check:
-    """A run of scripts/replay_record, which checks the answers in the record `path`.
-
-    `replay`: the program that replays. With the flag --follow, it waits for more of the record.
-    """
+    """A run of scripts/replay_record that checks the answers in the record `path`. `replay`: the program that replays."""
 
     def __init__(self, replay: str, path: str | Path, *flags: str) -> None:
         args = [REPLAY_RECORD, "--record", str(path), "--check", *flags]

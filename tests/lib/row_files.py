@@ -5,8 +5,7 @@ from collections import namedtuple
 
 from base import TOP
 
-# A run of the replay: its name, its arguments or `None` for the usual ones, its script, and its
-# expected output.
+# A run of the replay: its name, its arguments or `None` for the usual ones, its script, and its expected output.
 Row = namedtuple("Row", "name arguments script expected")
 
 MACRO = re.compile("<([^<>]*)>")
@@ -19,10 +18,7 @@ CHARACTERS = {"space": " ", "return": "\r", "zero": "\0", "newline": "\n"}
 
 
 def read_macros():
-    """Returns the words in tests/rows/words.txt and those for characters.
-
-    Each name has the number of its arguments and its text.
-    """
+    """Returns the number of arguments and the text of each word in tests/rows/words.txt and of those for characters, by name."""
     found = {it: (0, character) for it, character in CHARACTERS.items()}
     with open(f"{TOP}/tests/rows/words.txt", encoding="utf-8") as file:
         for line in file.read().splitlines():
@@ -36,10 +32,7 @@ MACROS = read_macros()
 
 
 def expand_match(match):
-    """Returns the text for one word and its arguments. The last argument extends to the end.
-
-    Raises `ValueError` if the number of arguments is wrong.
-    """
+    """Returns the text for a word and its arguments, the last of which extends to the end. Raises `ValueError` if their number is wrong."""
     name, *rest = match[1].split(" ", 1)
     if name == "client":
         return rest[0].zfill(CLIENT)
@@ -63,10 +56,9 @@ def expand_macros(text):
 
 
 def row_of(name, lines):
-    """Returns the row `name` from its lines. Each line begins with its mark.
+    """Returns the row `name` from its lines, which begin with marks: `$` arguments, `>` script, and `<` expected output, in this order.
 
-    `$` marks arguments, `>` the script, and `<` the expected output, in this order. Raises
-    `ValueError` if the lines have another form.
+    Raises `ValueError` if the lines have another form.
     """
     parts = {"$": [], ">": [], "<": []}
     for line in lines:

@@ -11,19 +11,9 @@ CANNOT_LISTEN = "bayeuxd: cannot listen"
 
 
 def run(program, args, **how):
-    """Runs a daemon. Returns its status, and its output on standard output and standard error.
-
-    `how`: more keyword arguments of `subprocess.run`.
-    """
-    how = {
-        "stdin": subprocess.DEVNULL,
-        "stdout": subprocess.PIPE,
-        "stderr": subprocess.PIPE,
-        "text": True,
-        "timeout": TIMEOUT_SECONDS,
-        **how,
-    }
-    result = subprocess.run([program, *args], check=False, **how)
+    """Runs a daemon. Returns its status, its output, and standard error. `how`: more keyword arguments of `subprocess.run`."""
+    streams = {"stdin": subprocess.DEVNULL, "stdout": subprocess.PIPE, "stderr": subprocess.PIPE, **how}
+    result = subprocess.run([program, *args], check=False, text=True, timeout=TIMEOUT_SECONDS, **streams)
     return result.returncode, result.stdout, result.stderr
 
 

@@ -1,10 +1,11 @@
 """Byte streams that are not valid HTTP, or valid HTTP that arrives in an unusual way."""
 import contextlib
+import re
 import socket
 import struct
 
 from daemon import Connection, ConnectionEnded, post
-from documents import LIMIT, check_post, check_status, document, messages_of
+from documents import check_post, document, messages_of
 
 # The statuses that a response to arbitrary bytes may have.
 STATUSES = {200, 400, 404, 405, 413, 414, 431, 501}
@@ -51,13 +52,9 @@ def post_chunked(body):
 
 
 def lying_chunks(random, clients):
-    """Returns a POST in chunks with one change at a line end.
-
-    Some bytes are replaced, removed or inserted there, or the rest is missing.
-    """
+    """Returns a POST in chunks. At a line end, some bytes are replaced, removed or inserted, or the rest is missing."""
     made = bytearray(chunked(random, document(random, clients)))
-    lines = [at for at in range(len(made) - 1) if made[at : at + 2] == b"\r\n"]
-    at = random.choice(lines)
+    at = random.choice([it.start() for it in re.finditer(b"\r\n", made)])
     way = random.randrange(4)
     if way == 0:
         made[max(0, at - 1) : at] = random.choice(LENGTHS)
@@ -73,9 +70,8 @@ def lying_chunks(random, clients):
 def lying_length(random, clients):
     """Returns a POST with a `content-length` that is not the length of its body."""
     body = document(random, clients)
-    length = max(0, len(body) + random.choice((-len(body), -9, -1, 1, 9, 1000)))
-    head = b"POST /cometd HTTP/1.1\r\nhost: h\r\ncontent-type: application/json\r\ncontent-length: %d\r\n\r\n"
-    return head % length + body
+    lie = b"content-length: %d" % max(0, len(body) + random.choice((-len(body), -9, -1, 1, 9, 1000)))
+    return post(body).replace(b"content-length: %d" % len(body), lie, 1)
 
 
 def changed_head(random, clients):
@@ -109,11 +105,7 @@ def cut(random, clients):
 
 
 def end(random, address, data):
-    """Sends `data` on a new connection, and ends the connection in one of three ways.
-
-    It shuts down the sending side only, closes the socket, or resets the connection. In the first case it reads the responses, and
-    checks their statuses.
-    """
+    """Sends `data` on a new connection, and closes or resets it, or shuts down the sending side and checks the statuses of responses."""
     way = random.choice(("half", "half", "close", "reset"))
     with Connection(address) as connection:
         with contextlib.suppress(ConnectionEnded, OSError):
@@ -124,23 +116,6 @@ def end(random, address, data):
             connection.socket.setsockopt(socket.SOL_SOCKET, socket.SO_LINGER, struct.pack("ii", 1, 0))
         if way == "half":
             assert {it.status for it in connection.read_to_end()} <= STATUSES
-
-
-def check_large(random, address):
-    """Posts a body of about the largest allowed size, and checks the response."""
-    body = b'[{"channel":"/a/b","clientId":"x","data":1}]'
-    size = LIMIT + random.choice((-1, 0, 0, 1, 1, 5000, 1 << 20))
-    at = random.choice((0, len(body)))
-    body = body[:at] + b" " * (size - len(body)) + body[at:]
-    data = post(body) if random.random() < 0.5 else post_chunked(chunks(random, body, (999, 50000, 1 << 19)) + b"0\r\n\r\n")
-    with Connection(address) as connection:
-        with contextlib.suppress(ConnectionEnded):
-            connection.send(data)
-        response = connection.response()
-        if size > LIMIT:
-            check_status(response, 413)
-        else:
-            check_post(messages_of(body), response)
 
 
 def check_slow(random, address):

@@ -11,8 +11,7 @@ from daemon import CONNECT, HANDSHAKE, Connection, ConnectionEnded, expect_succe
 class Client(threading.Thread):
     """A client with a session, whose `work` runs in a thread until `is_over` is set.
 
-    `wrong`: the error that ended it, or `None`. `failed`: how many requests had no response, or a 503. Between two requests,
-    `connection` is open or `None`.
+    `wrong`: the error that ended it. `failed`: how many requests had no response, or a 503. `connection`: an open one, or `None`.
     """
 
     def __init__(self, address: tuple[str, int], **handshake) -> None:
@@ -72,10 +71,9 @@ class Client(threading.Thread):
 
 
 class Publisher(Client):
-    """A client that publishes numbered events to `channel`, each on a new connection and none twice.
+    """A client that publishes `sent` numbered events to `channel`, each with `text`, on a new connection, and none twice.
 
-    `text`: a text for each event. `pause`: the seconds between two events. `sent`: the number of events. `answered`: the numbers of
-    those with a response.
+    `pause`: the seconds between two events. `answered`: the numbers of those with a response.
     """
 
     def __init__(self, address: tuple[str, int], channel: str, pause: float = 0.0) -> None:
@@ -94,10 +92,7 @@ class Publisher(Client):
 
 
 class Subscriber(Client):
-    """A client that gets the events of publishers, and checks that each comes once and in order.
-
-    It acknowledges them unless `is_acknowledging` is false. `events`: the channels and numbers of the events so far.
-    """
+    """A client that checks that each event of publishers comes once and in order. `events`: their channels and numbers so far."""
 
     def __init__(self, address: tuple[str, int], pattern: str, is_acknowledging: bool = True) -> None:
         super().__init__(address, **({"ext": {"ack": True}} if is_acknowledging else {}))
@@ -141,9 +136,9 @@ class Subscriber(Client):
 
 
 def check_events(publishers: list[Publisher], subscribers: list[Subscriber]) -> None:
-    """Checks the events of acknowledging subscribers, one of which gets those of all publishers.
+    """Checks that acknowledging subscribers, one of them of all publishers, have the same events in the same order.
 
-    They must have the same ones in the same order: each that was answered, and none that was not published.
+    These are all that were answered, and none that was not published.
     """
     events = max((it.events for it in subscribers), key=len)
     for it in subscribers:

@@ -71,15 +71,15 @@ class Tree:
         assert status == 0, errors
         return output, "bayeux: checked build: " in errors
 
-    def prove(self, data=None):
-        """Makes each program proved and built from the current sources. `data`: its content."""
+    def prove(self, text=PROGRAM.format("proved")):
+        """Makes each program proved and built from the current sources, with `text` as its content."""
         for it in PROGRAMS:
-            self.write(f"crates/{it}/out/{it}", data or PROGRAM.format("proved"), 0o755)
+            self.write(f"crates/{it}/out/{it}", text, 0o755)
             self.python(RECORD, f"crates/{it}/out/{it}", it, path=self.path)
 
-    def release(self, data=None):
-        """Makes a release of the current sources. `data`: the content of each program."""
-        content, data = io.BytesIO(), data or PROGRAM.format("released").encode()
+    def release(self):
+        """Makes a release of the current sources."""
+        content, data = io.BytesIO(), PROGRAM.format("released").encode()
         with tarfile.open(fileobj=content, mode="w:gz") as archive:
             for it in PROGRAMS:
                 head = tarfile.TarInfo(f"{ARCHIVE}/bin/{it}")

@@ -1,8 +1,8 @@
 """bayeux_load: what it sends, counts, and prints for servers that are right or wrong.
 
-The server is that of tests/lib/load_server.py. It puts the load's clock forward by a little with each message, and otherwise it does not
-move. In each run that ends with a report, each request has the same head, each message has the members that docs/PROTOCOL.md names,
-and the rates and moments are within bounds that the server's times give.
+The server of tests/lib/load_server.py puts the load's clock forward by a little with each message. In each run that ends with a report,
+each request has the same head, each message has the members that docs/PROTOCOL.md names, and the rates and moments are within bounds
+that the server's times give.
 """
 import collections
 import errno
@@ -18,8 +18,8 @@ import threading
 import pytest
 
 from base import TIMEOUT_SECONDS, reserved_port, wait_until
+from daemon import CONNECT, HANDSHAKE
 from load_server import EVENTS, NEVER, WRONG, Server, at_moment, kind_of, response_of
-from system import Clock, preloading
 
 PATH = "/cometd/of/a load?a=b".replace(" ", "%20")
 # The processors that the load sees by default. It has half as many threads, at least one and at most eight.
@@ -43,32 +43,23 @@ def form_of(message):
 
 
 # The messages that the load may send, each with any numbers.
-HANDSHAKE = {"channel": "/meta/handshake", "version": "1.0", "supportedConnectionTypes": ["long-polling"]}
-CONNECT = {"channel": "/meta/connect", "connectionType": "long-polling", "clientId": "0c"}
+SESSION, DATA = {"clientId": "0c"}, {"publisher": 0, "number": 0, "moment": 0}
 MESSAGES = [
     *(HANDSHAKE, {**HANDSHAKE, "ext": {"ack": True}}),
-    {"channel": "/meta/subscribe", "subscription": "/load/0", "clientId": "0c"},
-    *(CONNECT, {**CONNECT, "ext": {"ack": 0}}, {**CONNECT, "advice": {"timeout": 0}}),
-    {"channel": "/load/0", "data": {"publisher": 0, "number": 0, "moment": 0}, "clientId": "0c"},
+    {"channel": "/meta/subscribe", "subscription": "/load/0", **SESSION},
+    *({**CONNECT, **SESSION, **more} for more in ({}, {"ext": {"ack": 0}}, {"advice": {"timeout": 0}})),
+    {"channel": "/load/0", "data": DATA, **SESSION},
 ]
 FORMS = set(map(form_of, MESSAGES))
 
 
 @pytest.fixture
-def load_clock(system_library, tmp_path):
-    """A clock for the load. `clock.env`: an environment in which the load uses it."""
-    clock = Clock(tmp_path, is_standing=True)
-    clock.env = preloading(system_library, PROCESSORS=PROCESSORS, **clock.variables)
-    return clock
-
-
-@pytest.fixture
 def start(load_program):
-    """Starts the load: `start(server, arguments, variables, **streams)` returns a `Load`."""
+    """Starts the load, which ends with the test: `start(server, arguments, variables, **streams)` returns a `Load`."""
     loads = []
 
-    def start_load(server, arguments, variables=None, **streams):
-        loads.append(Load(load_program, server, arguments, variables or {}, streams))
+    def start_load(server, *how, **streams):
+        loads.append(Load(load_program, server, *how, **streams))
         return loads[-1]
 
     yield start_load
@@ -80,10 +71,10 @@ def start(load_program):
 class Load:
     """A run of the load on `server`. `arguments`: those after the URL. `start`, `end`: when it began and ended, by its clock."""
 
-    def __init__(self, program, server, arguments, variables, streams):
+    def __init__(self, program, server, arguments, variables=None, **streams):
         self.server, self.start, self.end = server, server.clock.seconds, None
         args = [program, f"http://{server.address()}{PATH}", *arguments.split()]
-        env = {**server.clock.env, **variables}
+        env = {**server.clock.env, "PROCESSORS": PROCESSORS, **(variables or {})}
         streams = {"stdin": subprocess.DEVNULL, "stdout": subprocess.PIPE, "stderr": subprocess.PIPE, **streams}
         self.process = subprocess.Popen(args, env=env, **streams)
 
@@ -102,10 +93,7 @@ class Load:
             clock.add(seconds)
 
     def check(self, status=0, last=WHOLE):
-        """Checks the status, the report, and what was sent. Returns the latencies in the report, in milliseconds.
-
-        `last`: the last line of the report.
-        """
+        """Checks the status, the report with its `last` line, and what was sent. Returns the latencies, in milliseconds."""
         found_status, output, errors = self.finish()
         report = REPORT.fullmatch(output)
         assert report, (found_status, output, errors)
@@ -151,11 +139,11 @@ EVENT_CASES = {
 
 
 @pytest.mark.parametrize("deed", EVENT_CASES)
-def test_events_that_a_server_treats_wrongly_are_counted(start, load_clock, deed):
+def test_events_that_a_server_treats_wrongly_are_counted(start, clock, deed):
     """Such an event has a latency. Another one is passed on in a response of a megabyte."""
     # A stray event needs a session of another channel, which has a publisher of its own.
     clients = "2 2 2" if deed == "stray" else "1 1 1"
-    with Server(load_clock, deed) as server:
+    with Server(clock, deed) as server:
         load = start(server, f"{clients} {EVENTS}")
         if deed in ("lose", "change"):
             wait_until("all events are passed on", lambda: server.published == EVENTS and server.has_read_all())
@@ -165,26 +153,23 @@ def test_events_that_a_server_treats_wrongly_are_counted(start, load_clock, deed
 
 
 class SlowSetupServer(Server):
-    """A server that answers the subscription with the number `sessions` a second late."""
+    """A server that answers the last of `sessions` subscriptions a second late."""
 
     def __init__(self, clock, sessions):
         super().__init__(clock)
-        self.sessions_left = sessions
+        self.count = sessions
 
     def before(self, message):
-        if message["channel"] == "/meta/subscribe":
-            with self.changed:
-                self.sessions_left -= 1
-                is_last = not self.sessions_left
-            if is_last:
-                self.clock.add(1.0)
-                self.clock.await_looks(20)
+        subscriptions = self.kinds("/meta/subscribe")
+        if len(subscriptions) >= self.count and subscriptions[self.count - 1][0] is message:
+            self.clock.add(1.0)
+            self.clock.await_looks(20)
 
 
-def test_shares_of_sessions_publishers_and_events(start, load_clock):
+def test_shares_of_sessions_publishers_and_events(start, clock):
     """Sessions and publishers are divided among the channels, and events among the publishers, who wait for all subscriptions."""
     sessions, publishers = 5, 3
-    with SlowSetupServer(load_clock, sessions) as server:
+    with SlowSetupServer(clock, sessions) as server:
         start(server, f"{sessions} 2 {publishers} {EVENTS}").check()
     handshakes, subscriptions, publishes = (server.kinds(it) for it in ("/meta/handshake", "/meta/subscribe", "publish"))
     assert [it for it, _, _ in handshakes] == [HANDSHAKE] * (sessions + publishers)
@@ -201,8 +186,8 @@ def test_shares_of_sessions_publishers_and_events(start, load_clock):
     assert publishes[0][1] >= max(it[2] for it in subscriptions)
 
 
-def test_publishers_without_sessions_only_publish(start, load_clock):
-    with Server(load_clock) as server:
+def test_publishers_without_sessions_only_publish(start, clock):
+    with Server(clock) as server:
         assert start(server, f"0 1 2 {EVENTS}").check() == [0.0] * 4
     assert not server.kinds("/meta/subscribe", "/meta/connect")
 
@@ -227,16 +212,16 @@ class CountingServer(Server):
 
 
 @pytest.mark.parametrize("processors, threads", [(1, 1), (6, 3), (40, 8)])
-def test_many_clients_are_opened_some_at_a_time(start, load_clock, processors, threads):
-    with CountingServer(load_clock, threads * AT_ONCE) as server:
+def test_many_clients_are_opened_some_at_a_time(start, clock, processors, threads):
+    with CountingServer(clock, threads * AT_ONCE) as server:
         start(server, f"1 1 {MANY} {MANY}", {"PROCESSORS": str(processors)}).check()
     assert (server.waited, len(server.kinds("/meta/handshake"))) == (threads * AT_ONCE, 1 + MANY)
 
 
 @pytest.mark.parametrize("more", ["ack", "1000 ack"])
-def test_acks_of_each_batch(start, load_clock, more):
+def test_acks_of_each_batch(start, clock, more):
     """The server then does not repeat it."""
-    with Server(load_clock) as server:
+    with Server(clock) as server:
         start(server, f"2 1 1 {EVENTS} {more}").check()
     found = sorted((it.channel is not None, it.is_acknowledging) for it in server.sessions.values())
     assert found == [(False, False), (True, True), (True, True)]
@@ -250,10 +235,10 @@ def publish_in_turn(server, seconds, count, between=lambda number: None):
         server.clock.add(seconds)
 
 
-def test_rate_of_publishes(start, load_clock):
+def test_rate_of_publishes(start, clock):
     """No event is published before it is due."""
     rate, count = 5, 8
-    with SlowSetupServer(load_clock, 2) as server:
+    with SlowSetupServer(clock, 2) as server:
         load = start(server, f"2 1 {count} {count} {rate}")
         publish_in_turn(server, 1 / rate, count)
         load.check()
@@ -261,7 +246,7 @@ def test_rate_of_publishes(start, load_clock):
         assert arrived >= load.ready() + message["data"]["publisher"] / rate
 
 
-def test_quiet_publishers_keep_their_sessions(start, load_clock):
+def test_quiet_publishers_keep_their_sessions(start, clock):
     """With a connect every five seconds, since a session lives for ten."""
     count, pause = 10, 5
 
@@ -270,7 +255,7 @@ def test_quiet_publishers_keep_their_sessions(start, load_clock):
         waiting = count - number if number > pause + 1 else 0
         wait_until("connects", lambda: len({it["clientId"] for it, _, _ in server.kinds("/meta/connect")}) >= waiting)
 
-    with Server(load_clock) as server:
+    with Server(clock) as server:
         load = start(server, f"0 1 {count} {count} 1")
         publish_in_turn(server, 1.0, count, await_connects)
         load.check()
@@ -299,8 +284,8 @@ class StagedServer(Server):
         super().publish(at_moment(event, NEVER if event["data"]["number"] < NO_LATENCY else 0))
 
 
-def test_latency_of_50_90_99_and_100_percent(start, load_clock):
-    with StagedServer(load_clock) as server:
+def test_latency_of_50_90_99_and_100_percent(start, clock):
+    with StagedServer(clock) as server:
         load = start(server, f"1 1 1 {STAGES[-1]}")
         least, *others = load.check()
     assert least == 0.0
@@ -325,9 +310,9 @@ class PartsServer(Server):
         return True
 
 
-def test_parts_of_responses(start, load_clock):
+def test_parts_of_responses(start, clock):
     """Whatever the case and the order of their fields."""
-    with PartsServer(load_clock) as server:
+    with PartsServer(clock) as server:
         start(server, f"2 1 1 {EVENTS}").check()
 
 
@@ -344,13 +329,15 @@ class JumpServer(Server):
     """A server that puts the load's clock forward by each of `jumps` in turn, before it answers a message of a kind.
 
     It answers when the load has looked at the clock, or if `answers` is false, only when `is_over` is set. If `kind` is "event", it
-    treats the last events so.
+    treats the responses with the last events so, once all are published.
     """
+
+    most_events = 1
 
     def __init__(self, clock, kind, jumps, answers):
         super().__init__(clock)
         self.kind, self.jumps, self.answers = kind, collections.deque(jumps), answers
-        self.held, self.turn, self.is_over = [], threading.Lock(), threading.Event()
+        self.first, self.turn, self.is_over = EVENTS - len(jumps), threading.Lock(), threading.Event()
 
     def jump(self):
         """Puts the clock forward, unless this was done for each of `jumps`."""
@@ -363,35 +350,21 @@ class JumpServer(Server):
                 self.is_over.wait(2 * TIMEOUT_SECONDS)
 
     def send(self, socket, message, items):
-        if kind_of(message) != self.kind:
+        if len(items) > 1 and self.kind == "event" and len(self.delivered) > self.first:
+            wait_until("all are published", lambda: self.published == EVENTS)
+        elif kind_of(message) != self.kind:
             return super().send(socket, message, items)
         with self.turn:
             self.jump()
             return super().send(socket, message, items)
 
-    def publish(self, event):
-        if self.kind != "event" or self.published <= EVENTS - len(self.jumps):
-            super().publish(event)
-            return
-        self.held.append(event)
-        if self.published == EVENTS:
-            threading.Thread(target=self.release, daemon=True).start()
-
-    def release(self):
-        """Passes the held events on, each after the one before has been read."""
-        for event in self.held:
-            wait_until("the events so far are read", self.has_read_all)
-            self.jump()
-            with self.changed:
-                super().publish(event)
-
 
 @pytest.mark.parametrize("kind, jumps, line", JUMPS, ids=lambda it: str(it) if it else "gives up")
-def test_silent_server_is_waited_for(start, load_clock, kind, jumps, line):
+def test_silent_server_is_waited_for(start, clock, kind, jumps, line):
     """For 25 seconds, but not for 31, and for an event for four, but not for six. Longer if others arrive meanwhile."""
     # With a single thread, each look is that of the thread that waits.
     threads = {"PROCESSORS": "1"} if line else {}
-    with JumpServer(load_clock, kind, jumps, answers=line == WHOLE) as server:
+    with JumpServer(clock, kind, jumps, answers=line == WHOLE) as server:
         load = start(server, f"1 1 {EVENTS} {EVENTS}" if kind == "/meta/handshake" else f"1 1 1 {EVENTS}", threads)
         if not line:
             wait_until("the clock is put forward", lambda: not server.jumps)
@@ -426,30 +399,26 @@ def lines_of(shown):
     return [tuple(map(int, it)) for it in PROGRESS.findall(shown)]
 
 
-def read_until(master, shown, is_enough):
-    """Appends what a terminal shows to `shown`, until `is_enough()`."""
+def test_terminal_shows_progress(start, clock):
+    """Each second, and in the end nothing. While one publish is not answered, nobody is left to open, and all earlier events have arrived."""
+    counts, shown, (master, terminal) = (0, EVENTS - WRONG, 2 * WRONG), bytearray(), pty.openpty()
 
-    def look():
+    def has_shown(is_enough):
+        """Reads what the terminal shows. Returns whether it is enough."""
         while select.select([master], [], [], 0)[0]:
             shown.extend(os.read(master, 1 << 16))
         return is_enough()
 
-    wait_until(f"more than {bytes(shown)!r}", look)
-
-
-def test_terminal_shows_progress(start, load_clock):
-    """Each second, and in the end nothing. While one publish is not answered, nobody is left to open, and all earlier events have arrived."""
-    counts, shown, (master, terminal) = (0, EVENTS - WRONG, 2 * WRONG), bytearray(), pty.openpty()
-    with StandingServer(load_clock) as server:
+    with StandingServer(clock) as server:
         load = start(server, f"2 1 1 {EVENTS}", stderr=terminal)
         wait_until("earlier events", lambda: len(server.delivered) == 2 * WRONG)
         for _ in range(3):
             server.clock.add(1.0)
-            seconds = int(server.clock.seconds)
-            read_until(master, shown, lambda seconds=seconds: (seconds, *counts) in lines_of(shown))
+            wanted = int(server.clock.seconds), *counts
+            wait_until("a line of progress", lambda wanted=wanted: has_shown(lambda: wanted in lines_of(shown)))
         server.is_free.set()
         load.check()
-    read_until(master, shown, lambda: shown.endswith(ERASED))
+    wait_until("the line is erased", lambda: has_shown(lambda: shown.endswith(ERASED)))
     os.close(terminal)
     os.close(master)
     assert PROGRESS.sub(b"", shown) == ERASED
@@ -462,41 +431,39 @@ SYSTEM = "a system call failed; are there enough file descriptors (ulimit -n)?"
 UNEXPECTED = "unexpected response (not 200 with replies)"
 REFUSED = "the server rejected a message; a session's queue may have overflowed"
 KINDS = ("/meta/handshake", "/meta/subscribe", "/meta/connect", "publish")
-# The data of an event.
-DATA = {"publisher": 0, "number": 0, "moment": 0}
 
 
 def with_id(client):
     """Returns a function that returns a response with the client id `client`, or without one if it is `None`."""
-    return lambda items: response_of(json.dumps([{**items[-1], "clientId": client} if client is not None else {"successful": True}]).encode())
+    return lambda items: response_of([{**items[-1], "clientId": client} if client is not None else {"successful": True}])
 
 
-def with_event(data, has_reply=True):
-    """Returns a function that returns a response with an event, followed by the right items if `has_reply`."""
-    return lambda items: response_of(json.dumps([{"channel": "/load/0", "data": data}, *(items if has_reply else [])]).encode())
+def with_event(data):
+    """Returns a function that returns a response with an event, followed by the right items."""
+    return lambda items: response_of([{"channel": "/load/0", "data": data}, *items])
 
 
 # Wrong responses, each a function of the right items, the message, and the kinds of messages, by default all. None: no response and the
 # end of the connection.
 RESPONSES = {
     "no response": (lambda items: None, ENDED),
-    "an error": (lambda items: response_of(json.dumps([{**items[-1], "successful": False, "error": "402::x"}]).encode()), REFUSED),
-    "status 201": (lambda items: response_of(json.dumps(items).encode(), b"201 Created"), UNEXPECTED),
-    "status 404": (lambda items: response_of(json.dumps(items).encode(), b"404 Not Found"), UNEXPECTED),
+    "an error": (lambda items: response_of([{**items[-1], "successful": False, "error": "402::x"}]), REFUSED),
+    "status 201": (lambda items: response_of(items, b"201 Created"), UNEXPECTED),
+    "status 404": (lambda items: response_of(items, b"404 Not Found"), UNEXPECTED),
     "status 503": (lambda items: response_of(b"", b"503 Service Unavailable"), UNEXPECTED),
-    "HTTP/1.0": (lambda items: response_of(json.dumps(items).encode(), version=b"HTTP/1.0"), UNEXPECTED),
+    "HTTP/1.0": (lambda items: response_of(items, version=b"HTTP/1.0"), UNEXPECTED),
     "no length": (lambda items: b"HTTP/1.1 200 OK\r\n\r\n" + json.dumps(items).encode(), UNEXPECTED),
-    "more than the length": (lambda items: response_of(json.dumps(items).encode()) + b"x", UNEXPECTED),
+    "more than the length": (lambda items: response_of(items) + b"x", UNEXPECTED),
     "a long head": (lambda items: b"HTTP/1.1 200 OK\r\nx: " + b"x" * 16_400, UNEXPECTED),
     "no JSON": (lambda items: response_of(b"["), UNEXPECTED),
-    "no array": (lambda items: response_of(json.dumps(items[-1]).encode()), UNEXPECTED),
+    "no array": (lambda items: response_of(items[-1]), UNEXPECTED),
     "no reply": (lambda items: response_of(b"[]"), UNEXPECTED),
-    "neither reply nor event": (lambda items: response_of(b'[{"channel":"/a"}]'), UNEXPECTED),
-    "a success of another type": (lambda items: response_of(b'[{"successful":"true","clientId":"1"}]'), UNEXPECTED),
+    "neither reply nor event": (lambda items: response_of([{"channel": "/a"}]), UNEXPECTED),
+    "a success of another type": (lambda items: response_of([{"successful": "true", "clientId": "1"}]), UNEXPECTED),
     **{f"the client id {it!r}": (with_id(it), UNEXPECTED, "/meta/handshake") for it in (None, 7, '1"', "1\\", "1 2", "1\u00e4")},
     **{f"an event with {it!r}": (with_event(it), UNEXPECTED) for it in (None, 5, "x", {**DATA, "number": -1}, {"publisher": 0, "number": 0})},
     "an event for a publisher": (with_event(DATA), UNEXPECTED, "publish"),
-    "an event without a reply": (with_event(DATA, has_reply=False), UNEXPECTED, "/meta/connect"),
+    "an event without a reply": (lambda items: with_event(DATA)([]), UNEXPECTED, "/meta/connect"),
 }
 
 
@@ -527,21 +494,21 @@ FAULTS = [(what, kind) for what, (_, _, *kinds) in RESPONSES.items() for kind in
 
 
 @pytest.mark.parametrize("what, kind", FAULTS, ids=[f"{what} to {kind.rpartition('/')[2]}" for what, kind in FAULTS])
-def test_faults_of_the_server_are_named(start, load_clock, what, kind):
+def test_faults_of_the_server_are_named(start, clock, what, kind):
     respond, message, *_ = RESPONSES[what]
-    with WrongServer(load_clock, kind, respond) as server:
+    with WrongServer(clock, kind, respond) as server:
         expect_message(start(server, f"3 1 1 {EVENTS}"), message)
 
 
-def test_faults_too_few_descriptors(start, load_clock):
-    with Server(load_clock) as server:
+def test_faults_too_few_descriptors(start, clock):
+    with Server(clock) as server:
         limit = lambda: resource.setrlimit(resource.RLIMIT_NOFILE, (16, 16))  # noqa: E731
         expect_message(start(server, f"50 1 1 {EVENTS}", preexec_fn=limit), SYSTEM)
 
 
 @pytest.mark.parametrize("port", [0, 65_536, "x"])
-def test_faults_nobody_listens(start, load_clock, port):
-    with Server(load_clock) as server, reserved_port() as unused:
+def test_faults_nobody_listens(start, clock, port):
+    with Server(clock) as server, reserved_port() as unused:
         server.address = lambda: f"127.0.0.1:{port or unused}"
         expect_message(start(server, f"1 1 1 {EVENTS}"), UNREACHED)
 
@@ -556,13 +523,13 @@ FAILURES = [
 
 
 @pytest.mark.parametrize("call, error, message", FAILURES)
-def test_failures_of_calls_are_named(start, load_clock, call, error, message):
-    with Server(load_clock) as server:
+def test_failures_of_calls_are_named(start, clock, call, error, message):
+    with Server(clock) as server:
         expect_message(start(server, "1 1 1 1", {"FAILING_CALL": call, "CALL_ERROR": str(getattr(errno, error))}), message)
 
 
-def test_full_file_of_the_report(start, load_clock):
-    with Server(load_clock) as server, open("/dev/full", "wb") as full:
+def test_full_file_of_the_report(start, clock):
+    with Server(clock) as server, open("/dev/full", "wb") as full:
         assert start(server, f"1 1 1 {EVENTS}", stdout=full).finish() == (1, "", "")
 
 

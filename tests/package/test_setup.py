@@ -1,11 +1,10 @@
 """gadzilk-setup puts nginx in front of the installed service, on a machine without Prometheus and in one with other sites."""
 import json
 import re
-import tempfile
 
 import pytest
 from base import retry
-from browser import Browser, missing_package
+from browser import browsing
 from nginx import Nginx
 from pages import Chat, talk
 
@@ -87,26 +86,23 @@ def test_setup_changes_nothing_if_it_cannot_start(certified):
 
 
 def test_setup_stops_at_the_first_error(certified):
-    certified.write("/root/key.pem", "wrong")
+    certified.run("openssl genrsa -out key.pem")
     assert certified.run("gadzilk-setup localhost", status=1).endswith("gadzilk-setup: stopped, and did nothing further\n")
-    assert certified.run("systemctl is-active nginx; curl -s http://127.0.0.1/ | grep -c Welcome; ls /etc/prometheus").split()[:2] == ["active", "2"]
-    certified.run(f"{CERTIFICATE}; systemd-run --unit other python3 -m http.server 443")
-    certified.wait("another program has the port", lambda: "*:443" in listening(certified) or "0.0.0.0:443" in listening(certified))
+    state = "systemctl is-active nginx; curl -s http://127.0.0.1/ | grep -c Welcome; find /etc/nginx -name '*.pem'"
+    assert certified.run(state).split() == ["active", "2"], "nginx got a key of another certificate"
+    other = "systemd-run --unit other{0} python3 -m http.server {0} --bind 0.0.0.0"
+    certified.run(f"{CERTIFICATE}; systemctl stop prometheus; {other.format(443)}; {other.format(9090)}")
+    certified.wait("other programs have the ports", lambda: {"0.0.0.0:443", "0.0.0.0:9090"} <= listening(certified))
     assert "nginx does not start: nginx: [emerg] bind() to 0.0.0.0:443 failed" in certified.run("gadzilk-setup localhost", status=1)
-    certified.run("systemctl stop other; gadzilk-setup localhost")
+    certified.run("systemctl stop other443")
+    assert "prometheus does not answer: " in certified.run("gadzilk-setup localhost", status=1)
+    certified.run("systemctl stop other9090; gadzilk-setup localhost")
 
 
 @pytest.mark.browser
 def test_visitors_chat_if_they_may_publish(certified):
-    if missing_package():
-        pytest.skip(f"there is no {missing_package()}")
     certified.run("gadzilk-setup --publish '/chat/**' localhost")
-    # Its folder has a short path, since it has sockets.
-    with tempfile.TemporaryDirectory(prefix="gadzilk-browser-") as folder, certified.network():
-        browser = Browser(folder)
-        try:
-            talk(*(Chat(browser, f"{SITE}/chat/", name) for name in ("Ann", "Ben")))
-        finally:
-            browser.end()
+    with certified.network(), browsing() as browser:
+        talk(*(Chat(browser, f"{SITE}/chat/", name) for name in ("Ann", "Ben")))
     log = certified.read("/var/log/nginx/access.log")
     assert re.search(r'"POST /cometd" 200 .* PASSED$', log, re.M)

@@ -44,32 +44,6 @@ scenario('each request of a session as a whole, and of the next one once it is l
   assert.deepEqual(client.log, ['connecting', 'connected', ['/a/x', 1], ['/b/c/d', 2], 'interrupted 402::Unknown client', 'gap', 'connected', ['/a/y', 3], 'stopped']);
 });
 
-scenario('the moment of a gap: the last request that brought events, or the subscription', async (server) => {
-  const place = new Place();
-  const client = place.client(server.address, {}, '/a');
-  client.hasMoments = true;
-  let now = 1000;
-  place.run('Date').now = () => now;
-  const gaps = () => client.log.filter(([kind]) => kind === 'gap').map(([, since]) => since);
-  const next = (moment, act) => server.renewed(() => {
-    now = moment;
-    return act();
-  });
-  await client.start();
-  for (const moment of [2000, 6000]) {
-    const count = gaps().length;
-    await next(moment, () => server.lose());
-    await until('there is a new session', () => gaps().length > count && server.held);
-    await next(moment + 1000, () => server.answerHeld([]));
-    await next(moment + 2000, () => server.emit(['/a', 1]));
-    await next(moment + 3000, () => server.answerHeld([]));
-  }
-  client.stop();
-  now = 10000;
-  await client.start();
-  assert.deepEqual(gaps(), [1000, 3000, 7000]);
-});
-
 scenario('a response that breaks off or is lost, and comes again', async (server) => {
   const [client] = await connected(server, {}, '/**');
   server.batch = 2 ** 40;

@@ -6,7 +6,6 @@ import test from 'node:test';
 import vm from 'node:vm';
 import { script } from '../../examples/client/build.mjs';
 
-export const FOLDER = new URL('../../examples/client/', import.meta.url);
 // The script that pages use, and in addition what is inside.
 export const SOURCE = script('globalThis.INSIDE = { askByScript, isMatch, sessionOf }');
 // What scenarios look at inside of a client.
@@ -43,7 +42,9 @@ export class Server {
     this.hasBatches = true; // whether it numbers its batches of events
     this.begin();
     this.failure = new Promise((_, reject) => (this.fail = reject));
-    this.server = http.createServer({ maxHeaderSize: 4 * LONGEST_TARGET }, (request, response) => this.receive(request, response));
+    // It ends no idle connection, which a client on a slow machine may be about to use.
+    const how = { maxHeaderSize: 4 * LONGEST_TARGET, keepAliveTimeout: 0 };
+    this.server = http.createServer(how, (request, response) => this.receive(request, response));
   }
 
   async listen() {

@@ -1,32 +1,29 @@
-// The pages of examples in node, with elements that only keep what they get. They have no HTML: who sets `innerHTML` instead of
-// `textContent` gets an error.
+// Pages in node, with elements that only keep what they get, and a clock that stands still.
 import assert from 'node:assert/strict';
 import { readFileSync } from 'node:fs';
 import vm from 'node:vm';
 
 const FOLDER = new URL('../../examples/', import.meta.url);
 export const PAGES = ['chat/index.html', 'dashboard/index.html', 'dashboard/metrics.html'];
+export const SITE = 'https://site.example/dashboard/';
 // A text that would run a script if it were shown as HTML.
 export const HOSTILE = '<img src=x onerror="alert(1)">&amp;';
 export const NO_ANSWER = 'no answer in time';
-
-/** Returns what the client says of a failure with the text `why`, or undefined if that is empty. */
-function errorOf(why) {
-  const status = Number(/^HTTP status (\d+)$/.exec(why)?.[1]) || undefined;
-  const code = status ? 'http' : why === NO_ANSWER ? 'timeout' : /^\d{3}::/.test(why) ? 'rejected' : 'network';
-  return why ? { code, status, message: why } : undefined;
-}
 export const read = (name) => readFileSync(new URL(name, FOLDER), 'utf8');
 
+/** Returns the paths of the scripts of the page `name`, whose text is `html`, from examples/ on. */
+export function scriptsOf(name, html) {
+  return [...html.matchAll(/<script src="([^"]+)">/g)].map(([, path]) => new URL(path, `file:///${name}`).pathname.slice(1));
+}
+
 /** An element that keeps its attributes, text and children. `html`: the text within which `querySelector` finds parts. */
-export class Element extends EventTarget {
+class Element extends EventTarget {
   constructor(tag = '', html = '') {
     super();
     Object.assign(this, { tag, html, textContent: '', className: '', value: '', title: '', hidden: false });
     Object.assign(this, { clientWidth: 600, clientHeight: 100, scrollHeight: 0, scrollTop: 0 });
-    Object.assign(this, { attributes: {}, children: [], parts: new Map(), calls: [] });
+    Object.assign(this, { attributes: {}, children: [], parts: new Map(), calls: [], classes: new Set() });
     this.style = { setProperty: (name, value) => (this.attributes[name] = value) };
-    this.classes = new Set();
     this.classList = { toggle: (name, isOn) => this.classes[isOn ? 'add' : 'delete'](name) };
   }
 
@@ -76,96 +73,53 @@ export class Element extends EventTarget {
   /** Returns the kind, the class, the text and the children, such as `li.own(p"Hello")`. */
   outline() {
     const children = this.children.map((it) => it.outline()).join(' ');
-    return `${this.tag}${this.className && '.'}${this.className}${this.textContent && JSON.stringify(this.textContent)}${children && `(${children})`}`;
+    const [text, inner] = [this.textContent && JSON.stringify(this.textContent), children && `(${children})`];
+    return `${this.tag}${this.className && '.'}${this.className}${text}${inner}`;
   }
 }
-for (const name of ['innerHTML', 'outerHTML', 'srcdoc']) {
-  Object.defineProperty(Element.prototype, name, { set: () => { throw new Error(`sets ${name}`); } });
-}
-for (const name of ['insertAdjacentHTML', 'setHTMLUnsafe']) Element.prototype[name] = () => { throw new Error(`calls ${name}`); };
 
-/**
- * A page with the elements and the scripts of the file `name`, or without a name with any element. Its clock stands still. Its
- * client sends nothing: `publishes` has what it would send.
- */
-export class Page {
-  constructor(address, name = '') {
-    this.html = name && read(name);
+/** The document `html`. Without `html`, it has an element for each id. */
+class Document extends Element {
+  constructor(html) {
+    super('', html);
+    this.body = new Element();
     this.elements = new Map();
-    this.now = Date.UTC(2026, 0, 2, 12);
-    this.ticks = [];
-    this.publishes = [];
-    this.beats = []; // what it would publish of who is online
-    const page = this;
-    for (const [whole, tag, id, text] of this.html.matchAll(/<(\w+)[^>]*\bid="(\w+)"[^>]*>([^<]*)/g)) {
-      const { 1: inner = '' } = this.html.match(`<template id="${id}">([^]*?)</template>`) ?? [];
+    for (const [whole, tag, id, text] of html.matchAll(/<(\w+)[^>]*\bid="(\w+)"[^>]*>([^<]*)/g)) {
+      const { 1: inner = '' } = html.match(`<template id="${id}">([^]*?)</template>`) ?? [];
       const { 1: className = '' } = whole.match(/ class="([^"]*)"/) ?? [];
-      this.elements.set(id, Object.assign(new Element(tag, inner), { textContent: text.trim(), className, hidden: / hidden>/.test(whole) }));
+      const element = new Element(tag, inner);
+      this.elements.set(id, Object.assign(element, { textContent: text.trim(), className, hidden: / hidden>/.test(whole) }));
     }
-    const { location, document } = { location: new URL(address), document: new EventTarget() };
-    document.getElementById = (id) => this.element(id);
-    document.createElement = (tag) => new Element(tag);
-    document.createElementNS = (space, tag) => new Element(`${space.split('/').at(-1)}:${tag}`);
+  }
+
+  getElementById(id) {
+    if (!this.elements.has(id) && !this.html) this.elements.set(id, new Element());
+    return this.elements.get(id) ?? null;
+  }
+
+  createElement(tag) {
+    return new Element(tag);
+  }
+
+  createElementNS(space, tag) {
+    return new Element(`${space.split('/').at(-1)}:${tag}`);
+  }
+}
+
+/** A page with the document `html`, and a clock that stands still. `globals`: what its scripts find besides. */
+export class StillPage {
+  constructor(html, globals) {
+    const page = this;
     class PageDate extends Date {
-      constructor(...args) {
-        super(...(args.length ? args : [page.now]));
-      }
+      static now = () => page.now;
 
-      static now() {
-        return page.now;
+      constructor(moment = page.now) {
+        super(moment);
       }
     }
-    class BayeuxClient extends EventTarget {
-      constructor(url) {
-        super();
-        Object.assign(this, { url, connectionType: 'long-polling', listeners: new Map(), isStarted: false });
-        page.client = this;
-      }
-
-      // As the real client tells the page. A page may replace these functions.
-      onstate(state, why) {
-        this.state = state;
-        this.tell('state', { state, why, error: errorOf(why) });
-      }
-
-      ongap(since) {
-        this.tell('gap', { since });
-      }
-
-      tell(type, members) {
-        this.dispatchEvent(Object.assign(new Event(type), members));
-      }
-
-      subscribe(pattern, listener) {
-        this.listeners.set(pattern, listener);
-        return Promise.resolve();
-      }
-
-      async start() {
-        this.isStarted = true;
-      }
-
-      publish(channel, data) {
-        (channel.endsWith('/presence') ? page.beats : page.publishes).push([channel, JSON.parse(JSON.stringify(data))]);
-        // What a page says of its user is not slow, and does not fail.
-        if (channel.endsWith('/presence')) return Promise.resolve();
-        if (page.isSlow) return new Promise((resolve, reject) => (page.publish = { resolve, reject }));
-        return page.failure ? Promise.reject(page.failure) : Promise.resolve();
-      }
-    }
-    const ResizeObserver = class {
-      observe() {}
-    };
-    const setInterval = (go, milliseconds) => this.ticks.push([go, milliseconds]);
-    this.context = vm.createContext({ URL, URLSearchParams, Date: PageDate, document, location, BayeuxClient, ResizeObserver, setInterval });
-    // The browser has another language than the page.
-    this.run(`{
-      const { toLocaleString } = Number.prototype;
-      Number.prototype.toLocaleString = function (locale = 'de', options) { return toLocaleString.call(this, locale, options); };
-    }`);
-    const scripts = [...this.html.matchAll(/<script src="([^"]+)"><\/script>/g)].map(([, path]) => new URL(path, `file:///${name}`).pathname.slice(1));
-    assert.equal(scripts.shift(), name ? 'client/bayeux.js' : undefined);
-    for (const it of scripts) vm.runInContext(read(it), this.context);
+    this.now = Date.UTC(2026, 0, 2, 12);
+    this.document = new Document(html);
+    this.context = vm.createContext({ Date: PageDate, document: this.document, ...globals });
   }
 
   run(script) {
@@ -173,8 +127,74 @@ export class Page {
   }
 
   element(id) {
-    if (!this.elements.has(id) && !this.html) this.elements.set(id, new Element());
-    return this.elements.get(id) ?? null;
+    return this.document.getElementById(id);
+  }
+}
+
+/** Returns what the client says of a failure with the text `why`, or undefined if that is empty. */
+function errorOf(why) {
+  const status = Number(/^HTTP status (\d+)$/.exec(why)?.[1]) || undefined;
+  const code = status ? 'http' : why === NO_ANSWER ? 'timeout' : /^\d{3}::/.test(why) ? 'rejected' : 'network';
+  return why ? { code, status, message: why } : undefined;
+}
+
+/** The client of `page`, which sends nothing: `page.publishes` has what it would send. */
+class SilentClient extends EventTarget {
+  constructor(page, url) {
+    super();
+    Object.assign(this, { page, url, connectionType: 'long-polling', listeners: new Map(), isStarted: false });
+    page.client = this;
+  }
+
+  // As the real client tells the page. A page may replace these functions.
+  onstate(state, why) {
+    this.state = state;
+    this.tell('state', { state, why, error: errorOf(why) });
+  }
+
+  ongap(since) {
+    this.tell('gap', { since });
+  }
+
+  tell(type, members) {
+    this.dispatchEvent(Object.assign(new Event(type), members));
+  }
+
+  async subscribe(pattern, listener) {
+    this.listeners.set(pattern, listener);
+  }
+
+  async start() {
+    this.isStarted = true;
+  }
+
+  async publish(channel, data) {
+    const { page } = this;
+    const isBeat = channel.endsWith('/presence');
+    (isBeat ? page.beats : page.publishes).push([channel, JSON.parse(JSON.stringify(data))]);
+    // What a page says of its user is not slow, and does not fail.
+    if (isBeat) return;
+    if (page.isSlow) await new Promise((resolve, reject) => (page.publish = { resolve, reject }));
+    if (page.failure) throw page.failure;
+  }
+}
+
+/** A page with the elements and the scripts of the file `name`, or without a name with any element. */
+export class Page extends StillPage {
+  constructor(address, name = '') {
+    const ResizeObserver = class { observe() {} };
+    const setInterval = (go, milliseconds) => this.ticks.push([go, milliseconds]);
+    super(name && read(name), { URL, URLSearchParams, location: new URL(address), ResizeObserver, setInterval });
+    Object.assign(this, { ticks: [], publishes: [], beats: [] }); // beats: what it would publish of who is online
+    this.context.BayeuxClient = SilentClient.bind(null, this);
+    // The browser has another language than the page.
+    this.run(`{
+      const { toLocaleString } = Number.prototype;
+      Number.prototype.toLocaleString = function (locale = 'de', options) { return toLocaleString.call(this, locale, options); };
+    }`);
+    const scripts = scriptsOf(name, this.document.html);
+    assert.equal(scripts.shift(), name ? 'client/bayeux.js' : undefined);
+    for (const it of scripts) this.run(read(it));
   }
 
   /** Lets `seconds` pass, and what the page does each second. */
@@ -195,5 +215,3 @@ export class Page {
     return [this.element('state').textContent, textContent];
   }
 }
-
-export const SITE = 'https://site.example/dashboard/';

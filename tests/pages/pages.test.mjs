@@ -1,7 +1,11 @@
 // What the pages of examples have in common, and the scripts of documents, without a browser.
 import assert from 'node:assert/strict';
 import test from 'node:test';
-import { HOSTILE, NO_ANSWER, Page, PAGES, read, SITE } from './page_place.mjs';
+import { HOSTILE, NO_ANSWER, Page, PAGES, read, scriptsOf, SITE } from './page_place.mjs';
+
+// What runs a text as HTML or as a script.
+const SINKS = new RegExp('\\.(?:innerHTML|outerHTML|srcdoc|insertAdjacentHTML|setHTMLUnsafe|createContextualFragment|parseFromString)\\b'
+  + '|document\\.write|\\beval\\(|new Function\\(');
 
 /** Returns the code in `language` of a page of docs that has `text`. */
 function codeOf(page, language, text) {
@@ -134,9 +138,8 @@ test('the files of the pages', () => {
     if (name.startsWith('chat/')) live.push('id="problem" role="alert"', 'aria-live="polite"');
     assert.deepEqual(live.filter((it) => !text.includes(it)), [], name);
     assert.deepEqual(text.match(/<script(?! src="[\w./-]+"><\/script>)|\son\w+=|javascript:|style=/g), null, `${name} has inline scripts or styles`);
-    for (const [, script] of text.matchAll(/<script src="([^"]+)">/g)) {
-      const sinks = /\.(?:innerHTML|outerHTML|srcdoc|insertAdjacentHTML|setHTMLUnsafe|createContextualFragment|parseFromString)\b|document\.write|\beval\(|new Function\(/;
-      assert.equal(read(new URL(script, `file:///${name}`).pathname.slice(1)).match(sinks), null, script);
-    }
+  }
+  for (const script of [...PAGES.flatMap((it) => scriptsOf(it, read(it))), '../crates/bx_metrics/src/status_page.rt']) {
+    assert.equal(read(script).match(SINKS), null, script);
   }
 });

@@ -1,9 +1,8 @@
-// The script of the status page, with a clock and metrics of this file, and with elements that only keep what they get.
+// The script of the status page, with metrics of this file.
 import assert from 'node:assert/strict';
 import { readFileSync } from 'node:fs';
 import test from 'node:test';
-import vm from 'node:vm';
-import { Element } from './page_place.mjs';
+import { StillPage } from './page_place.mjs';
 
 const read = (path) => readFileSync(new URL(path, import.meta.url), 'utf8');
 // Samples, what the charts show of them without and with the pointer at the second sample, metrics, the facts that the page shows of
@@ -18,48 +17,28 @@ const PATIENCE = 30000, LOCKED = 300000;
 const READING = /^reads the metrics every (\d+) s$/, LOST = /^no metrics since /, NEVER = /^no metrics at this address$/;
 
 /** A status page whose clock stands still. `asked`: its request that has no response yet. `timer`: what it does later. */
-class Page {
+class Page extends StillPage {
   constructor() {
-    const page = this;
-    this.now = Date.UTC(2026, 0, 2, 12);
-    this.elements = new Map();
-    this.body = new Element();
-    this.root = new Element('', BODY);
-    const document = this.document = {
-      body: this.body,
-      getElementById: (id) => this.element(id),
-      querySelector: (selector) => this.root.querySelector(selector),
-      createElement: (tag) => new Element(tag),
-      createElementNS: (space, tag) => new Element(`${space} ${tag}`),
-    };
-    class PageDate extends Date {
-      static now() {
-        return page.now;
-      }
-    }
     const fetch = (url, options = {}) => new Promise((resolve, reject) => {
       assert.equal(this.asked, undefined, 'a request while another one has no response');
       this.asked = { url, ...options, resolve, reject };
     });
-    const AbortSignal = { timeout: (milliseconds) => ({ milliseconds }) };
     const setTimeout = (go, milliseconds) => {
       assert.equal(this.timer, undefined, 'two timers');
       this.timer = { go, milliseconds };
     };
-    const location = { host: 'h' };
-    this.context = vm.createContext({ Date: PageDate, document, fetch, AbortSignal, setTimeout, location });
-    vm.runInContext(SCRIPT, this.context);
+    super(BODY, { fetch, AbortSignal: { timeout: (milliseconds) => ({ milliseconds }) }, setTimeout, location: { host: 'h' } });
+    this.run(SCRIPT);
   }
 
-  element(id) {
-    const { 1: html } = BODY.match(`<template id="${id}">([^]*?)</template>`) ?? [];
-    if (!this.elements.has(id) && BODY.includes(` id="${id}"`)) this.elements.set(id, new Element('', html));
-    return this.elements.get(id) ?? null;
+  /** Returns the charts. */
+  charts() {
+    return this.document.querySelector('main').children;
   }
 
   /** Returns the first chart with the title `title`. */
   chart(title) {
-    return this.root.querySelector('main').children.find((it) => it.querySelector('h2').textContent === title);
+    return this.charts().find((it) => it.querySelector('h2').textContent === title);
   }
 
   /** Returns how many pieces the curve of the sessions has. */
@@ -98,7 +77,7 @@ class Page {
     if (wanted === LOST) assert.equal(textContent, `no metrics since ${new Date(this.lastRead).toLocaleTimeString()}`);
     else this.lastRead = this.now;
     assert.equal(className, wanted === READING ? 'connected' : 'interrupted');
-    assert.equal(this.body.classes.has('old'), wanted === LOST);
+    assert.equal(this.document.body.classes.has('old'), wanted === LOST);
     const [, seconds] = textContent.match(READING) ?? [];
     if (seconds) assert.equal(this.timer.milliseconds, 1000 * seconds, 'the page reads as often as it says');
   }
@@ -147,7 +126,7 @@ test('a page that did not run for a while', async () => {
   // The curves show fifteen minutes. The oldest sample is the first one, and later the first one after the phone was locked.
   for (const [minutes, oldest] of [[14, 0], [16, LOCKED + 2 * page.timer.milliseconds]]) {
     await page.next(metrics(2), begin + 60000 * minutes - page.now);
-    assert.equal(vm.runInContext('samples[0].time', page.context) - begin, oldest, `the oldest sample after ${minutes} minutes`);
+    assert.equal(page.run('samples[0].time') - begin, oldest, `the oldest sample after ${minutes} minutes`);
   }
 });
 
@@ -179,7 +158,7 @@ test('each row of a key has the colour of its curve', async () => {
   }
   for (const [count, rest] of [[12, ''], [13, 'and 1 more']]) {
     await page.next(metrics(1) + lags(count));
-    vm.runInContext('samples.splice(0, samples.length - 1); draw()', page.context);
+    page.run('samples.splice(0, samples.length - 1); draw()');
     assert.deepEqual([rows('Shard lag').length, page.chart('Shard lag').querySelector('.rest').textContent], [12, rest]);
   }
 });
@@ -188,13 +167,13 @@ test('each row of a key has the colour of its curve', async () => {
 test('all that the charts and the facts show', async () => {
   const page = new Page();
   await page.answer(metrics(1));
-  const draw = (samples) => vm.runInContext(`samples = ${JSON.stringify(samples)}.map(([time, it]) => ({ time, values: it && parse(it) })); draw()`, page.context);
-  const charts = page.root.querySelector('main').children;
+  const draw = (samples) => page.run(`samples = ${JSON.stringify(samples)}.map(([time, it]) => ({ time, values: it && parse(it) })); draw()`);
+  const charts = page.charts();
   const shown = () => charts.map((root) => {
     const part = (selector) => root.querySelector(selector);
     const texts = ['h2', '.unit', '.value', '.most'].map((it) => part(it).textContent);
     const curves = part('g').children.map(({ tag, attributes }) => {
-      assert.deepEqual([tag, attributes.class], ['http://www.w3.org/2000/svg path', 'curve']);
+      assert.deepEqual([tag, attributes.class], ['svg:path', 'curve']);
       return attributes.d;
     });
     const key = part('.key').children.map(({ tag, children: [mark, label] }) => {
@@ -222,9 +201,9 @@ test('all that the charts and the facts show', async () => {
   draw([[page.now, METRICS]]);
   assert.deepEqual(facts(), FACTS);
   draw([[page.now, 'bayeux_uptime_seconds_total 5\n']]);
-  assert.deepEqual(facts(), ['Uptime: 5 s', ...FACTS.slice(1).map((it) => it.replace(/1,0\d\d/g, '–'))]);
+  assert.deepEqual(facts(), ['Version: –', 'Uptime: 5 s', ...FACTS.slice(2).map((it) => it.replace(/1,0\d\d/g, '–'))]);
   for (const [name, results] of Object.entries(RESULTS)) {
-    const found = results.map(([it]) => vm.runInContext(`${name}(${it})`, page.context));
+    const found = results.map(([it]) => page.run(`${name}(${it})`));
     assert.deepEqual(found, results.map(([, it]) => it), name);
   }
 });

@@ -108,6 +108,7 @@ scenario('a window takes over the session, and the open publishes of others', as
   }
 });
 
+// A gap begins with the last request that brought events, or with the subscription.
 scenario('what each window is told, and the moment of each gap', async (server) => {
   const [origin, , one, two, three] = await opened(server, ['/a', '/one'], ['/a', '/two'], ['/a', '/three']);
   const windows = [one, two, three];
@@ -120,6 +121,7 @@ scenario('what each window is told, and the moment of each gap', async (server) 
   };
   const lost = (since) => ['interrupted 402::Unknown client', ['gap', since], 'connected'];
   for (const number of [1, 2]) await next(1000 * number, () => server.emit(['/a', number]), windows, [['/a', number]]);
+  await next(2500, () => server.renewed(() => server.answerHeld([])), [], []);
   await next(3000, () => server.lose(), windows, lost(1000));
   assert.deepEqual(server.messages('/meta/subscribe').slice(-4), ['/a', '/one', '/two', '/three'].map((it) => subscribe(it, 2)));
   await server.renewed(() => one.stop());
@@ -128,6 +130,11 @@ scenario('what each window is told, and the moment of each gap', async (server) 
   const first = ['connecting', 'connected', ['/a', 1], ['/a', 2], ...lost(1000)];
   assert.deepEqual(windows.map(told), [[...first, 'stopped'], ...Array(2).fill([...first, ...lost(3000)])]);
   assert.deepEqual([two.clientId, three.clientId, two.listeners.size], ['session 3', 'session 3', 2]);
+  three.stop();
+  await two.stop();
+  origin.now = 9000;
+  await two.start();
+  assert.deepEqual(told(two).slice(-4), ['stopped', 'connecting', ['gap', 4000], 'connected']);
 });
 
 scenario('each window gets the answers to its own requests', async (server) => {

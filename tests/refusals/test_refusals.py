@@ -5,7 +5,6 @@ The program is `bx_refusals`, whose parts use all crates below the daemon.
 import os
 import subprocess
 from pathlib import Path
-from typing import NamedTuple
 
 import pytest
 from base import TOP, compile_library, has_compiler
@@ -16,14 +15,6 @@ PARTS = ("plans", "shard", "rounds", "world", "hub", "window", "service", "piece
 SHARES = 4
 # The greatest number of allocations that are refused, and how long a run may take, in seconds.
 MAX_CALLS, SECONDS = 100_000, 60
-
-
-class Run(NamedTuple):
-    """What a run ended with, and whether it made the allocation that is refused."""
-
-    status: int
-    output: bytes
-    is_met: bool
 
 
 @pytest.fixture(scope="module")
@@ -43,26 +34,25 @@ def refusing_library(program: str, tmp_path_factory: pytest.TempPathFactory) -> 
     return compile_library("tests/refusals/refuse.c", tmp_path_factory.mktemp("refuse"))
 
 
-def run(args: list[str], library: str, call: int, folder: Path) -> Run:
-    """Runs a program in which allocation number `call` fails, or none if it is 0."""
-    met = folder / f"met{call}"
-    env = {"LD_PRELOAD": library, "REFUSE": str(call), "REFUSE_MET": str(met)}
-    result = subprocess.run(args, env=env, stdin=subprocess.DEVNULL, capture_output=True, timeout=SECONDS, check=False)
-    return Run(result.returncode, result.stdout, met.exists())
-
-
 @pytest.mark.timeout(1800)
 @pytest.mark.parametrize("first", range(1, SHARES + 1))
 @pytest.mark.parametrize("part", PARTS)
 def test_refused_allocation_changes_nothing(part: str, first: int, program: str, refusing_library: str, tmp_path: Path) -> None:
-    whole = run([program, part], refusing_library, 0, tmp_path)
-    assert whole.status == 0
+    def run(call: int) -> tuple[int, bytes, bool]:
+        """Refuses allocation number `call`. Returns the status, the output, and whether the program made this allocation."""
+        met = tmp_path / f"met{call}"
+        env = {"LD_PRELOAD": refusing_library, "REFUSE": str(call), "REFUSE_MET": str(met)}
+        args = [program, part]
+        result = subprocess.run(args, env=env, stdin=subprocess.DEVNULL, capture_output=True, timeout=SECONDS, check=False)
+        return result.returncode, result.stdout, met.exists()
+
+    status, whole, _ = run(0)
+    assert status == 0
     for call in range(first, MAX_CALLS, SHARES):
-        found = run([program, part], refusing_library, call, tmp_path)
-        if not found.is_met:
+        status, output, is_met = run(call)
+        if not is_met:
             assert call > first, "no allocation was refused"
             return
-        is_same = found.status == 0 and found.output == whole.output
-        has_ended_in_preparation = found.status == 1 and found.output != whole.output and whole.output.startswith(found.output)
-        assert is_same or has_ended_in_preparation, f"allocation {call} of {part}: status {found.status}, printed {found.output!r}"
+        has_ended_in_preparation = status == 1 and output != whole and whole.startswith(output)
+        assert (status, output) == (0, whole) or has_ended_in_preparation, f"allocation {call} of {part}: {status}, {output!r}"
     pytest.fail(f"{part} makes more than {MAX_CALLS} allocations")

@@ -5,6 +5,7 @@ Each call of records.txt is a test: `./bayeux test records -k WORD`.
 import difflib
 import functools
 import hashlib
+import itertools
 import os
 import re
 import select
@@ -13,7 +14,6 @@ import signal
 import subprocess
 import sys
 import threading
-from collections import deque
 from collections.abc import Callable, Iterator
 from importlib.machinery import SourceFileLoader
 from importlib.util import module_from_spec, spec_from_loader
@@ -22,7 +22,7 @@ from typing import Any, NamedTuple
 
 import pytest
 import records
-from base import TOP, make_program, wait_until
+from base import TOP, make_program, read, wait_until
 from row_files import expand_macros
 
 REPLAY_RECORD = f"{TOP}/scripts/replay_record"
@@ -112,17 +112,16 @@ def identifier(call: Call) -> str:
 def ask(replay_program: str, tmp_path: Path) -> Ask:
     """Calls scripts/replay_record: `ask(args, text)`, where FILE in `args` is a record with `text`.
 
-    `env`: more variables; `None` removes one. `program`: a command in place of the script. `how`: arguments of `subprocess.run`.
+    `program`: a command in place of the script. `env`: the environment. `how`: more arguments of `subprocess.run`.
     """
 
-    def run(args: list[str], text: bytes = b"", env: dict[str, str | None] | None = None, program=(REPLAY_RECORD,), **how) -> Result:
+    def run(args: list[str], text: bytes = b"", program=(REPLAY_RECORD,), **how) -> Result:
         record = tmp_path / "record"
         record.write_bytes(text)
-        values: dict[str, str | None] = {**os.environ, "REPLAY": replay_program, **(env or {})}
-        streams: dict[str, Any] = {"stdin": subprocess.DEVNULL, "stdout": subprocess.PIPE, "stderr": subprocess.PIPE, **how}
         command = [*program, *(it.replace("FILE", str(record)) for it in args)]
-        clean = {name: it for name, it in values.items() if it is not None}
-        result = subprocess.run(command, timeout=SECONDS, check=False, env=clean, **streams)
+        usual: dict[str, Any] = {"stdin": subprocess.DEVNULL, "stdout": subprocess.PIPE, "stderr": subprocess.PIPE}
+        usual["env"] = {**os.environ, "REPLAY": replay_program}
+        result = subprocess.run(command, timeout=SECONDS, check=False, **{**usual, **how})
         output, errors = ((it or b"").decode(errors="replace").replace(str(record), "FILE") for it in (result.stdout, result.stderr))
         return Result(result.returncode, output, errors)
 
@@ -276,73 +275,52 @@ def load_checker():
     return checker
 
 
-class Endless:
-    """A file that always has more to read, and a clock that advances 0.1 seconds with each read."""
+class RecordFile:
+    """A file that grows, and a clock that goes on by 0.1 seconds with each read. Both replace those of the scripts.
 
-    def __init__(self, *lines: str):
-        """Creates a file that begins with `lines`. Ticks follow without end."""
-        self.lines, self.seconds = "".join(record_line(it) + "\n" for it in lines).encode(), 0.0
+    `grow(file)`: returns what a read finds.
+    """
+
+    def __init__(self, grow: Callable[["RecordFile"], bytes], monkeypatch: pytest.MonkeyPatch):
+        self.grow, self.seconds = grow, 0.0
+        for module in (records, load_checker()):
+            monkeypatch.setattr(module, "time", self)
 
     def seek(self, place: int) -> None:
         """Ignores the call."""
 
     def read(self, size: int) -> bytes:
-        """Returns the next lines, fewer bytes than `size`."""
-        lines, self.lines = self.lines, b"1 T\n" * min(10, size // 4)
-        self.seconds += 0.1
-        return lines
-
-    def monotonic(self) -> float:
-        """Returns the time in seconds."""
-        return self.seconds
-
-
-class Clocked(Endless):
-    """A file that grows by a line after each `pause` seconds of its clock, `count` times. Each look at the clock takes 0.1 seconds."""
-
-    def __init__(self, pause: float, count: int):
-        super().__init__()
-        self.pause, self.count, self.grown = pause, count, 0
-
-    def read(self, size: int) -> bytes:
-        """Returns the next line if it is time for it."""
         del size
-        if self.grown >= self.count or self.seconds < self.pause * (self.grown + 1):
-            return b""
-        self.grown += 1
-        return b"1 T\n"
+        self.seconds += 0.1
+        return self.grow(self)
 
     def monotonic(self) -> float:
-        """Returns the time in seconds."""
-        self.seconds += 0.1
         return self.seconds
 
-
-def source_of(file: Endless, monkeypatch: pytest.MonkeyPatch) -> records.Source:
-    """Returns a source that reads `file`, whose clock replaces that of the scripts."""
-    for module in (records, load_checker()):
-        monkeypatch.setattr(module, "time", file)
-    source = records.Source.__new__(records.Source)
-    source.path, source.file, source.read = "", file, 0
-    return source
+    def source(self) -> records.Source:
+        """Returns a source that reads the file."""
+        source = records.Source.__new__(records.Source)
+        source.path, source.file, source.read = "", self, 0
+        return source
 
 
 def find_late_answer(monkeypatch: pytest.MonkeyPatch, lag: float, answered: bool, bad: bool = False):
     """Runs a check of an endless record for 100 seconds of the record's clock, with a simulated replay.
 
     The replay lags `lag` seconds. It answers a held connect at line 5 if `answered`, otherwise never. If `bad`, it cannot read
-    the first line after a second. Returns the line and place of the fault, or `None`, the number of compared answers, and
+    the first line after five seconds. Returns the line and place of the fault, or `None`, the number of compared answers, and
     the time at the end.
     """
-    file = Endless("0 P [<handshake>]", "1 P [<connect 1>]", "A 1 sha256([<connected 1>])", "2 T", "3 T")
-    source, check = source_of(file, monkeypatch), load_checker().Check()
-    given: deque[tuple[float, bytes]] = deque()
+    begin = ["0 P [<handshake>]", "1 P [<connect 1>]", "A 1 sha256([<connected 1>])", "2 T", "3 T"]
+    blocks = itertools.chain(["".join(f"{record_line(it)}\n" for it in begin).encode()], itertools.repeat(b"1 T\n" * 10))
+    file, check = RecordFile(lambda _: next(blocks), monkeypatch), load_checker().Check()
+    given: list[tuple[float, bytes]] = []
     number, line = 0, 1
-    for part in check.parts(source.follow(threading.Event(), None)):
+    for part in check.parts(file.source().follow(threading.Event(), None)):
         given.extend((file.seconds, line) for line in (part or b"").split(b"\n")[:-1])
-        while given and given[0][0] <= file.seconds - lag:
+        while number < len(given) and given[number][0] <= file.seconds - lag:
+            is_push = given[number][1] == b"-"
             number += 1
-            is_push = given.popleft()[1] == b"-"
             line += not is_push
             if is_push or (bad and file.seconds > 5):
                 check.printed(number, "bad", b"")
@@ -365,8 +343,7 @@ def test_late_answer_is_found_in_an_endless_record(lag: int, monkeypatch) -> Non
 
 @pytest.mark.parametrize("lag", [0, 30])
 def test_answer_of_a_late_replay_is_compared(lag: int, monkeypatch) -> None:
-    found, compared, _ = find_late_answer(monkeypatch, lag, True)
-    assert (found, compared) == (None, 1)
+    assert find_late_answer(monkeypatch, lag, True)[:2] == (None, 1)
 
 
 def test_line_that_the_replay_cannot_read_is_found_after_pushes(monkeypatch) -> None:
@@ -399,10 +376,11 @@ def test_answer_may_be_printed_before_its_line(text: str, wanted: tuple[int, int
 
 @pytest.mark.parametrize("pause, lines", [(2.0, 10), (9.0, 10), (11.0, 0)])
 def test_idle_counts_from_the_last_growth(pause: float, lines: int, monkeypatch) -> None:
-    file, stop = Clocked(pause, 10), threading.Event()
+    """The file grows by a line after each `pause` seconds, ten times."""
+    due, stop = [pause * it for it in range(10, 0, -1)], threading.Event()
+    file = RecordFile(lambda it: b"1 T\n" if due and it.seconds >= due[-1] and due.pop() else b"", monkeypatch)
     monkeypatch.setattr(stop, "wait", lambda seconds: None)
-    found = sum(it is not None for it in source_of(file, monkeypatch).follow(stop, 10.0))
-    assert found == lines
+    assert sum(it is not None for it in file.source().follow(stop, 10.0)) == lines
     assert pause * lines + 10.0 <= file.seconds <= pause * lines + 11.0
 
 
@@ -433,40 +411,15 @@ def test_installed_script_replays_with_the_program_on_the_path(ask: Ask, tmp_pat
     shutil.copy(f"{TOP}/scripts/records.py", tmp_path / "scripts")
     for it in ("path", built):
         make_program(tmp_path / it / "bayeux_replay", f'echo "{it} $*"; cat')
-    how = {"env": {"PATH": f"{tmp_path}/path:{os.environ['PATH']}", "REPLAY": None}, "program": [f"{tmp_path}/scripts/bayeux_record"]}
+    how = {"env": {"PATH": f"{tmp_path}/path:{os.environ['PATH']}"}, "program": [f"{tmp_path}/scripts/bayeux_record"]}
     for wanted in (built, "path"):
         # The last line is not complete.
         found = ask(["--record", "FILE"], f"{FIRST_LINE}\n0 T\n1 T".encode(), **how)
         assert found == (0, f"{wanted} --record -\n{FIRST_LINE}\n0 T\n", "")
         shutil.rmtree(tmp_path / "crates", ignore_errors=True)
     usage = "usage: bayeux_record --record FILE [--client ID-OR-NAME | --check [--follow [--idle SECONDS]]]\n"
-    found = ask(["--record", "FILE", "--follow"], **how)
-    assert found == (2, "", f"bayeux: --follow: only allowed with --check\n{usage}")
     found = ask(["--record", "FILE", "--client", ""], **how)
     assert found == (2, "", f"bayeux: --client: expected the beginning of a client id, or a name\n{usage}")
-
-
-RIGHT_WORDS = ["options=- bytes=-", "options=r bytes=-", "options=a bytes=-", "options=ra bytes=-", "options=- bytes=1"]
-WRONG_WORDS = [
-    *(f"options={it} bytes=-" for it in ("", "ar", "x", "rr", "--", "- -")),
-    *("timeout=1 options=- bytes=-", "options=- Bytes=1 bytes=-", "options=- bytes= bytes=-", " bytes=-"),
-]
-WRONG_LINES = [
-    *(f" {FIRST_LINE}", f"{FIRST_LINE} ", f"{FIRST_LINE}\r", FIRST_LINE.partition(" bytes")[0], FIRST_LINE.replace("shards=1", "shards=-1")),
-    *("", f"\n{FIRST_LINE}", *(FIRST_LINE.replace("options=- bytes=-", it) for it in WRONG_WORDS)),
-]
-
-
-@pytest.mark.parametrize("words", RIGHT_WORDS)
-def test_first_line_is_accepted(words: str, ask: Ask) -> None:
-    assert ask(["--record", "FILE", "--check"], f"{FIRST_LINE.replace('options=- bytes=-', words)}\n0 T\n".encode()).status == 0
-
-
-@pytest.mark.parametrize("line", WRONG_LINES)
-def test_first_line_is_refused(line: str, ask: Ask) -> None:
-    found = ask(["--record", "FILE", "--check"], f"{line}\n0 T\n".encode())
-    assert found.status == 2
-    assert "has no first line that says how a server is run" in found.errors
 
 
 def test_clients_that_match_are_counted_and_ten_are_listed(ask: Ask) -> None:
@@ -491,13 +444,12 @@ def test_file_that_cannot_be_used_is_refused(way: list[str], ask: Ask, tmp_path:
 
 @pytest.mark.parametrize("way", WAYS, ids=" ".join)
 def test_missing_program_is_reported(way: list[str], ask: Ask, tmp_path: Path) -> None:
-    found = ask(["--record", "FILE", *way], f"{FIRST_LINE}\n0 P [{BEN}]\n".encode(), env={"REPLAY": f"{tmp_path}/none"})
+    found = ask(["--record", "FILE", *way], f"{FIRST_LINE}\n0 P [{BEN}]\n".encode(), env={**os.environ, "REPLAY": f"{tmp_path}/none"})
     assert (found.status, found.output) == (2, "")
     assert f"{tmp_path}/none" in found.errors and "Traceback" not in found.errors
 
 
-RIGHT, WRONG = f"{FIRST_LINE}\n0 P [{BEN}]\n".encode(), f"{FIRST_LINE}\n0 P [{BEN}]\nno line\n".encode()
-NAMED, FAILED = ("bayeux: Ben, by the handshake of line 2 at moment 0, is ", ""), "bayeux: standard output"
+NAMED, FAILED = "bayeux: Ben, by the handshake of line 2 at moment 0, is ", "bayeux: standard output"
 # Of each output that cannot be written: why that is so.
 UNWRITABLE = {"full": "No space left on device", "pipe": "Broken pipe", "closed": "closed"}
 
@@ -516,20 +468,39 @@ def ask_unwritable(ask: Ask, args: list[str], text: bytes, output: str) -> Resul
             os.close(it)
 
 
-def unwritable() -> Iterator[tuple[list[str], bytes, str, int, list[tuple[str, str]]]]:
-    """Yields arguments, a record, an output, the status, and what each line on standard error begins with and contains."""
-    for output, why in UNWRITABLE.items():
-        for args in (["--check"], ["--check", "--follow"], ["--check", "--follow", "--idle", "0.5"]):
-            yield from ((args, text, output, 1, [(FAILED, why)]) for text in (RIGHT, WRONG))
-        yield [], RIGHT, output, 1, [(FAILED, why) if output == "closed" else ("bayeux_replay: ", "")]
-    # The record has no answer to Ben, so nothing is printed, which a pipe without a reader does not refuse.
-    for output, status, lines in (("full", 1, [NAMED, (FAILED, UNWRITABLE["full"])]), ("pipe", 0, [NAMED]), ("closed", 1, [(FAILED, "closed")])):
-        yield ["--client", "Ben"], RIGHT, output, status, lines
-
-
-@pytest.mark.parametrize("args, text, output, status, wanted", unwritable())
-def test_output_that_cannot_be_written_is_reported(ask: Ask, args: list[str], text: bytes, output: str, status: int, wanted) -> None:
-    found = ask_unwritable(ask, ["--record", "FILE", *args], text, output)
+@pytest.mark.parametrize("output", UNWRITABLE)
+@pytest.mark.parametrize("way", [*WAYS, ["--check", "--follow", "--idle", "0.5"]], ids=" ".join)
+def test_output_that_cannot_be_written_is_reported(ask: Ask, way: list[str], output: str) -> None:
+    """Unless nothing is written: the record has no answer to Ben, and a pipe without a reader does not refuse that."""
+    text = f"{FIRST_LINE}\n0 P [{BEN}]\n" + ("no line\n" if "--check" in way else "")
+    found = ask_unwritable(ask, ["--record", "FILE", *way], text.encode(), output)
+    wanted = [(FAILED, UNWRITABLE[output])]
+    if not way and output != "closed":
+        wanted = [("bayeux_replay: ", "")]
+    elif "--client" in way and output != "closed":
+        wanted = [(NAMED, ""), *(wanted if output == "full" else [])]
     lines = found.errors.splitlines()
-    assert (found.status, len(lines)) == (status, len(wanted)), lines
+    assert (found.status, len(lines)) == (0 if wanted == [(NAMED, "")] else 1, len(wanted)), lines
     assert all(it.startswith(begin) and part in it for it, (begin, part) in zip(lines, wanted)), lines
+
+
+def test_examples_of_monitor(ask: Ask) -> None:
+    """In the record of the page, the digest of the answer to Ben's connect is that of another answer."""
+    ben, ann = f"c3c2{0:027}1{1:016}", f"a1{0:030}{2:016}"
+    lines = [
+        *(FIRST_LINE, f"0 N {ben[:32]}", f"0 P [{BEN}]", "101 P [<subscribe 1 /chat/hall>]"),
+        *("A 0 sha256([<opened 1>])", "A 1 sha256([<subscribed 1 /chat/hall>])"),
+        *("180 T", '185 P [{"channel":"/meta/connect","clientId":"<client 1>","connectionType":"long-polling","id":"b3"}]'),
+        *(f"200 N {ann[:32]}", "200 P [<handshake>]", "A 4 sha256([<opened 2>])", "300 T", "400 T"),
+        '732 P [{"channel":"/chat/hall","clientId":"<client 2>","data":"Lunch at one","id":"a2"}]',
+        *('A 7 sha256([{"channel":"/chat/hall","id":"a2","successful":true}])', "A 3 sha256([])"),
+    ]
+    for number, client in enumerate((ben, ann), 1):
+        lines = [expand(it).replace(expand(f"<client {number}>"), client) for it in lines]
+    text = "".join(f"{record_line(it)}\n" for it in lines)
+    examples = re.findall(r"^    \$ \./bayeux replay --record monday\.record (.+)\n((?:    .*\n)+)", read("docs/MONITOR.md"), re.MULTILINE)
+    assert [it.partition(" ")[0] for it, _ in examples] == ["--client", "--check"]
+    for arguments, wanted in examples:
+        found = ask(["--record", "FILE", *arguments.split()], text.encode())
+        pattern = re.escape(re.sub("^    ", "", wanted, flags=re.MULTILINE)).replace(r"\.\.", ".*")
+        assert re.fullmatch(pattern, found.output), found.output

@@ -35,8 +35,8 @@ WRONG_LINE = f"expected {' '.join(f'{it}=..' for it in WORDS)}"
 # Arguments with a flag that is not alone, or not known, and the first line of a record.
 MORE_REJECTED = ["--record", "--record - -", "--record /nothing/here 1", "- --record", "--help", "--Record -"]
 FIRST_LINE = f"{' '.join(f'{it}={WORDS[it] or 1}' for it in WORDS)}\n".encode()
-# How much of two outputs is shown around the first difference, in bytes.
-WIDTH = 300
+# A line with its end. How much of two outputs is shown around the first difference, in bytes.
+LINE, WIDTH = re.compile(rb"[^\n]*\n|[^\n]+"), 300
 
 Replay = Callable[..., subprocess.CompletedProcess[bytes]]
 Check = Callable[[Row], None]
@@ -47,9 +47,8 @@ def replay(replay_program: str) -> Replay:
     """Runs bayeux_replay: `replay(args, script, **how)`, with arguments of `subprocess.run`."""
 
     def run(args: list[str], script: bytes = b"", **how):
-        streams: dict[str, Any] = {"stdout": subprocess.PIPE, "stderr": subprocess.PIPE, **how}
-        if "stdin" not in how:
-            streams["input"] = script
+        streams: dict[str, Any] = {} if "stdin" in how else {"input": script}
+        streams |= {"stdout": subprocess.PIPE, "stderr": subprocess.PIPE, **how}
         return subprocess.run([replay_program, *args], check=False, **streams)
 
     return run
@@ -89,23 +88,15 @@ def identifier(row: Row) -> str:
 
 
 def redistributed(row: Row) -> Iterator[Row]:
-    """Yields a short row again with the line SHARDS inserted after each of its lines in turn.
-
-    The numbers of the later lines grow by one, and nothing else may change.
-    """
-    lines = lines_of(row.script) if len(row.script) <= SHORT else []
+    """Yields a short row with the line SHARDS after each of its lines in turn. Only the numbers of later lines grow, by one."""
+    lines = LINE.findall(row.script) if len(row.script) <= SHORT else []
     for count in range(1, len(lines)):
         printed = []
-        for line in lines_of(row.expected):
+        for line in LINE.findall(row.expected):
             number, _, rest = line.partition(b" ")
             printed.append(b"%d %s" % (int(number) + (int(number) > count), rest))
         script = b"".join([*lines[:count], SHARDS, *lines[count:]])
         yield Row(f"{row.name}, redistributed after {count} lines", row.arguments, script, b"".join(printed))
-
-
-def lines_of(text: bytes) -> list[bytes]:
-    """Returns the lines of a text, each with its line end."""
-    return re.findall(rb"[^\n]*\n|[^\n]+", text)
 
 
 def arguments_of(row: Row, each: list[str]) -> list[str]:

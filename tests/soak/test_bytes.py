@@ -21,10 +21,8 @@ PIPELINED = {
     "forms": (documents.form_case, 256),
     "queries": (documents.get_case, 256),
     "nested": (documents.nested_case, 64),
-    "routes": (documents.route_case, 256),
 }
 STREAMS = {"streams": (streams.stream, 64), "cuts": (streams.cut, 64)}
-CHECKED = {"large": (streams.check_large, 4), "slow": (streams.check_slow, 1)}
 
 
 def run_pipelined(chance, address, clients, maker, count):
@@ -52,15 +50,13 @@ def run_batch(server, kind, seed):
         for _ in range(count):
             streams.end(chance, server.address, maker(chance, clients))
     else:
-        check, count = CHECKED[kind]
-        for _ in range(count):
-            check(chance, server.address)
+        streams.check_slow(chance, server.address)
     check_serves(server.address, "/right")
 
 
 @pytest.mark.timeout(3600)
 @pytest.mark.parametrize("seeds", [["1"], pytest.param([f"{SEED}/{it}" for it in range(BATCHES)], marks=pytest.mark.soak)], ids=["one", "many"])
-@pytest.mark.parametrize("kind", [*PIPELINED, *STREAMS, *CHECKED])
+@pytest.mark.parametrize("kind", [*PIPELINED, *STREAMS, "slow"])
 def test_random_requests(daemon, clock_ahead, kind, seeds):
     """In the end, the daemon ends all connections, also those that clients left open."""
     server = daemon("--timeout", "200ms", "--max-interval", "2s", env=clock_ahead.env)

@@ -34,10 +34,7 @@ SAMPLES, KEPT_FREE = 24, 4096
 
 
 class Unlucky(Subscriber):
-    """A subscriber whose connections are cut at random moments. It vanishes for a while, and then continues its session.
-
-    `way`: "post", "callback", or "slow", which reads a little at a time.
-    """
+    """A subscriber whose connections are cut, and that vanishes for a while. `way`: "post", "callback", or "slow", which reads a little at a time."""
 
     def __init__(self, address, pattern, number, way="post", **how):
         self.random, self.way, self.cuts = random.Random(number), way, None
@@ -101,10 +98,9 @@ class Rider(Subscriber):
 def annoy(server, number, is_over):
     """Sends invalid and unlucky requests until `is_over` is set. `number`: chooses them."""
     chance = random.Random(f"annoyer {number}")
-    weights, makers = (30, 15, 1), (streams.stream, streams.cut, None)
     while not is_over.wait(0.1):
-        maker = chance.choices(makers, weights)[0]
-        if maker:
+        if chance.randrange(46):
+            maker = chance.choice((streams.stream, streams.stream, streams.cut))
             streams.end(chance, server.address, maker(chance, ["x"]))
         else:
             streams.check_slow(chance, server.address)

@@ -48,7 +48,8 @@ pub fn channels_text<L: HubKind, H: Wait + Drop, R: Wait>(
     lines.text(alloc)
 }
 
-// Calls `add` with each session of the hub, until it returns `false`.
+// Calls `add` with each session of the hub, until it returns `false`: the first one of each shard,
+// then the second ones, and so on, so that a long shard does not hide the others.
 fn visit_sessions<L, H, R, F>(
     rt: &R,
     alloc: Global,
@@ -63,14 +64,19 @@ where
     F: FnMut(&SessionSurvey) -> Result<bool, AllocError>,
     requires { (state : F) (session : _) → F.pre state session }
 {
-    for shard in 0..shards {
-        for index in 0..usize::MAX {
+    for index in 0..usize::MAX {
+        let mut has_more = false;
+        for shard in 0..shards {
             let Some((session, _)) = hub.survey_session(rt, alloc, shard, index)? else {
-                break;
+                continue;
             };
+            has_more = true;
             if !add(&session)? {
                 return Ok(());
             }
+        }
+        if !has_more {
+            break;
         }
     }
     Ok(())

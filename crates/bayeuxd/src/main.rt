@@ -54,6 +54,8 @@ const NO_READER: &str = "bayeuxd: cannot read standard input";
 
 const NO_SEED: &str = "cannot read the seed";
 
+const SEED_FORM: &str = "bayeuxd: a seed has 64 hexadecimal digits";
+
 const OUT_OF_MEMORY: &str = "bayeuxd: out of memory";
 
 type Host = Logged<HostRuntime, LogLines<HostRuntime>>;
@@ -77,7 +79,7 @@ fn main(host: HostRuntime) -> ExitCode {
         Ok(listening) => listening,
         Err(fault) => return not_served(&rt, fault),
     };
-    let (metrics, record_file) = match outputs_of(&rt, &settings) {
+    let (metrics, record_file) = match outputs_of(&rt, &settings, &parts.counts) {
         Ok(outputs) => outputs,
         Err(status) => return status,
     };
@@ -129,7 +131,13 @@ struct Parts<'a> {
 fn parts_of<'a>(rt: &Host, settings: &Settings<'a>) -> Result<Parts<'a>, ExitCode> {
     let seed = match seed_of(rt, settings.seed) {
         Ok(seed) => seed,
-        Err(error) => return Err(refused_at(rt, NO_SEED, seed_name(settings.seed), &error)),
+        Err(error) => {
+            let exit = refused_at(rt, NO_SEED, seed_name(settings.seed), &error);
+            if error.kind() == io::ErrorKind::InvalidData {
+                let _ = rt.eprintln(SEED_FORM);
+            }
+            return Err(exit);
+        }
     };
     let listen_address = listen_address_of(rt, settings.listen)?;
     let readers = match settings.read_only_listen {
@@ -171,10 +179,14 @@ fn arguments_of(settings: &Settings<'_>, seed: [u8; 32]) -> ServeSettings {
 type Outputs = (Option<MetricsListener>, Option<NewRecordFile<File>>);
 
 // Listens for metrics and creates the record file. Reports errors and returns their exit status.
-fn outputs_of(rt: &Host, settings: &Settings<'_>) -> Result<Outputs, ExitCode> {
+fn outputs_of(
+    rt: &Host,
+    settings: &Settings<'_>,
+    counts: &Arc<Counts, Global>,
+) -> Result<Outputs, ExitCode> {
     let metrics = metrics_of(rt, settings)?;
     // The record file is created last, so that a failed listener leaves no file.
-    Ok((metrics, record_of(rt, settings)?))
+    Ok((metrics, record_of(rt, settings, counts)?))
 }
 
 fn metrics_of(rt: &Host, settings: &Settings<'_>) -> Result<Option<MetricsListener>, ExitCode> {
@@ -191,11 +203,15 @@ fn metrics_of(rt: &Host, settings: &Settings<'_>) -> Result<Option<MetricsListen
     }
 }
 
-fn record_of(rt: &Host, settings: &Settings<'_>) -> Result<Option<NewRecordFile<File>>, ExitCode> {
+fn record_of(
+    rt: &Host,
+    settings: &Settings<'_>,
+    counts: &Arc<Counts, Global>,
+) -> Result<Option<NewRecordFile<File>>, ExitCode> {
     let Some(path) = settings.record_file else {
         return Ok(None);
     };
-    match make_record(rt, path, &settings.config, settings.record_answers) {
+    match make_record(rt, path, settings, counts) {
         Ok(file) => Ok(Some(file)),
         Err(error) => {
             let exit = refused_at(rt, CANNOT_RECORD, path, &error);

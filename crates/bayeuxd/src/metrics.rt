@@ -119,7 +119,8 @@ where
                 Vec::new(alloc)
             }
         };
-        let text = response_text(alloc, asked, self.counts.listens(), page.as_slice())?;
+        let health = self.counts.health(self.clock.now());
+        let text = response_text(alloc, asked, health, page.as_slice())?;
         stream.write_all(text.as_slice())
     }
 }

@@ -1,10 +1,11 @@
 use crate::serve::ServerKind;
-use bx_advice::Config;
 use bx_hub::{Hub, HubKind, RecordFront};
+use bx_metrics::{Counts, Metric};
 use bx_record::{
     CountedFile, RecordFault, RecordFile, Source, TakenAnswerLines, TakenText, WaitingAnswerLines,
     WriteSummary, WriterEnd, config_text, write_until_stopped,
 };
+use bx_settings::Settings;
 use bx_window::LogId;
 use log::{Log, info, warn};
 use std::alloc::{AllocError, AllocGlobal, Global};
@@ -21,35 +22,68 @@ use std::{io, thread};
 // Only its owner can read and write the record file.
 const OWNERS: u32 = 0o600;
 
+/// The file of a record, which takes a limited number of bytes, and counts them.
+#[derive(Drop)]
+pub struct LimitedFile<F> {
+    file: F,
+    // How many more bytes it takes.
+    left: usize,
+    counts: Arc<Counts, Global>,
+}
+
+impl<F: Write> Write for LimitedFile<F> {
+    fn write(&mut self, buf: &[u8]) -> io::Result<usize> {
+        if buf.len() > self.left {
+            return Err(io::ErrorKind::FileTooLarge.into());
+        }
+        let written = self.file.write(buf)?;
+        self.left = self.left.saturating_sub(written);
+        self.counts.add(Metric::RecordedBytes, written as u64);
+        Ok(written)
+    }
+
+    fn flush(&mut self) -> io::Result<()> {
+        self.file.flush()
+    }
+}
+
 /// The file of a record, after its first line was written.
 #[derive(Drop)]
 pub struct NewRecordFile<F> {
-    file: CountedFile<F>,
+    file: CountedFile<LimitedFile<F>>,
     has_answers: bool,
+    counts: Arc<Counts, Global>,
 }
 
-/// Creates the record file at `path` and writes the line that describes `config`.
-///
-/// `has_answers`: whether to record the digests of answers, too.
+/// Creates the record file at `path` for `settings`, and writes its first line.
 ///
 /// # Errors
 ///
-/// `AlreadyExists`, or the error of a system call, after which the file may exist.
+/// `AlreadyExists`, `FileTooLarge`, or the error of a system call. After the last two, the file may
+/// exist.
 pub fn make_record<R: Files<File = File> + Log + AllocGlobal>(
     rt: &R,
     path: &str,
-    config: &Config,
-    has_answers: bool,
+    settings: &Settings<'_>,
+    counts: &Arc<Counts, Global>,
 ) -> io::Result<NewRecordFile<File>> {
     let file = OpenOptions::new()
         .write(true)
         .create_new(true)
         .mode(OWNERS)
         .open(rt, path)?;
-    let mut file = CountedFile::new(file);
-    file.write_all(config_text(rt.alloc(), config)?.as_slice())?;
+    let mut file = CountedFile::new(LimitedFile {
+        file,
+        left: settings.record_bytes,
+        counts: Arc::try_clone(counts)?,
+    });
+    file.write_all(config_text(rt.alloc(), &settings.config)?.as_slice())?;
     info!(rt; target: "bayeuxd", file = path; "recording started");
-    Ok(NewRecordFile { file, has_answers })
+    Ok(NewRecordFile {
+        file,
+        has_answers: settings.record_answers,
+        counts: Arc::try_clone(counts)?,
+    })
 }
 
 /// The thread that writes the record, if there is one.
@@ -85,7 +119,14 @@ impl Recorder {
     {
         let alloc = rt.alloc();
         let stop = Arc::new(alloc, AtomicBool::new(false))?;
-        let Some(NewRecordFile { file, has_answers }) = file else {
+        let Some(
+            NewRecordFile {
+                file,
+                has_answers,
+                counts,
+            },
+        ) = file
+        else {
             return Ok(Recorder {
                 thread: None,
                 answers: None,
@@ -104,10 +145,12 @@ impl Recorder {
             return Err(io::ErrorKind::InvalidInput.into());
         };
         let out = RecordFile::new(file, start);
-        let thread = thread::spawn(
-            &rt,
-            move || tell(&rt, &write_until_stopped(&rt, alloc, record, out, &*over)),
-        )?;
+        counts.set(Metric::Recording, 1);
+        let thread = thread::spawn(&rt, move || {
+            let written = write_until_stopped(&rt, alloc, record, out, &*over);
+            counts.set(Metric::Recording, 0);
+            tell(&rt, &written);
+        })?;
         Ok(Recorder {
             thread: Some(thread),
             answers: has_answers.then_some(log),

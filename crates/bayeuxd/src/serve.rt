@@ -230,7 +230,7 @@ where
         // The recorder starts before anything is appended to the list, such as the first tick.
         let recorder = Recorder::start(rt, &shared.hub, record_file)?;
         let (first, other) = shared.endpoints(listener, readers, readers_publish, &recorder)?;
-        let ticker = shared.start_ticker(config.limits.sessions)?;
+        let ticker = shared.start_ticker()?;
         arguments.limit_shutdown(&mut runtime);
         let end = shared.close_on(shutdown)?;
         counts.set_listens(true);
@@ -401,15 +401,13 @@ where
     L: LogId + Send + Sync + 'static,
     R: Wait + Threads + Clock + AllocGlobal + Log + Sync + Send + Copy + Drop + 'static,
 {
-    // `crowd`: the number of filed answers above which they are dropped sooner.
-    fn start_ticker(&self, crowd: usize) -> io::Result<Ticker> {
+    fn start_ticker(&self) -> io::Result<Ticker> {
         Ticker::start(TickerParts {
             rt: self.rt,
             hub: Arc::try_clone(&self.hub)?,
             clock: self.clock,
             counts: Arc::try_clone(&self.counts)?,
             refusals: self.refusals.try_clone()?,
-            crowd,
         })
     }
 

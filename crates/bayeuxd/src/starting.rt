@@ -81,6 +81,10 @@ impl<'s, 'a> Source for SettingsPairs<'s, 'a> {
         pair(to, "metrics", settings.metrics.unwrap_or("-"))?;
         pair(to, "record", settings.record_file.unwrap_or("-"))?;
         pair(to, "record_answers", settings.record_answers)?;
+        match settings.record_bytes {
+            usize::MAX => pair(to, "record_bytes", "no-limit")?,
+            n => pair(to, "record_bytes", n)?,
+        }
         pair(to, "until_eof", settings.until_eof)
     }
 }

@@ -22,7 +22,8 @@ const TICK: u64 = 100;
 // A filed answer is dropped after this number of ticks: a minute. Policy of this server.
 const KEPT: usize = 600;
 
-// The same, if more answers are filed than sessions may be live: a second. Policy of this server.
+// The same, if more answers are filed than sessions are live, each of which needs at most one: a
+// second. Policy of this server.
 const KEPT_IN_A_CROWD: usize = 10;
 
 // Ticks between the log lines for rejected requests and overflows: a second. Policy of this server.
@@ -37,8 +38,6 @@ pub struct TickerParts<L: HubKind, R: Wait + Drop> {
     pub clock: SinceStart<R>,
     pub counts: Arc<Counts, Global>,
     pub refusals: ListenerRefusals<R>,
-    /// The number of filed answers above which they are dropped sooner.
-    pub crowd: usize,
 }
 
 /// The thread that posts ticks.
@@ -54,7 +53,7 @@ impl Ticker {
     /// The thread counts the ticks and copies the hub's state to `counts`. Once a second, it logs
     /// the refusals of both listeners, the sessions that overflowed, and the rejected handshakes.
     /// It drops filed answers that are not taken within a minute, or within a second while more
-    /// than `crowd` are filed.
+    /// are filed than sessions are live.
     ///
     /// # Errors
     ///
@@ -94,7 +93,6 @@ where
         clock,
         counts,
         refusals,
-        crowd,
     } = parts;
     let mut pass = hub.pass();
     let mut places = VecDeque::new(rt.alloc());
@@ -115,15 +113,16 @@ where
         turn = turn.wrapping_add(1);
         // A tick that is not appended adds no place. Then answers are dropped only if many are
         // filed.
-        match hub.tick(rt, rt.alloc(), &mut pass, Tick::new(clock.now())) {
+        let moment = clock.now();
+        match hub.tick(rt, rt.alloc(), &mut pass, Tick::new(moment)) {
             Ok(ticked) => {
-                counts.add_tick(ticked.advanced.behind());
+                counts.add_tick(moment, ticked.advanced.behind());
                 let _ = places.push_back(ticked.place);
             }
             Err(_) => counts.add(Metric::RefusedTicks, 1),
         }
         let filed = survey(rt, &**hub, &mut pass, &**counts);
-        let kept = if filed > *crowd as u64 {
+        let kept = if filed > counts.get(Metric::Sessions) {
             KEPT_IN_A_CROWD
         } else {
             KEPT

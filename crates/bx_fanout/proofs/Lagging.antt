@@ -25,7 +25,7 @@ module _ {P : Type 0} {g : Ghosts P} where
   lags-on w v same more level =
       let xs : List (Shard P) = w.shards.items in
       let from : StandFrom (length v.list) xs = λ k s found. level k s.place (ap (λ (ns : List ℕ). slice_get ns k) same ∙ slice_get-map (λ (x : Shard P). x.place) xs k ∙ ap (option_map (λ (x : Shard P). x.place)) found) in
-      let low : length v.list ≤ w.admission.first = not_below xs (length v.list) w.admission.first from w.slowest in
-      let high : w.admission.first ≤ length w.admission.list = not_above xs (length w.admission.list) w.admission.first (λ k s found. (w.holding k s found).holds.within) w.slowest in
-      let less : length w.admission.list < length v.list = more in
+      let low : length v.list ≤ w.first = not_below xs (length v.list) w.first from w.holds.slowest in
+      let high : w.first ≤ length w.registry.list = not_above xs (length w.registry.list) w.first (λ k s found. (w.holds.holding k s found).holds.within) w.holds.slowest in
+      let less : length w.registry.list < length v.list = more in
       omega arith

@@ -114,6 +114,6 @@ module _ {P : Type 0} {g : Ghosts P} where
   consistent-complete p n is counted intake few = record {
     counted = counted;
     staged = subst (λ (s : Stage). IsStaged (setup_of p.world) (map read_input p.inputs) (world_of p.world) p.held s (map seen_out p.added)) (sym is)
-        (giving-no-entries (setup_of p.world) (map read_input p.inputs) (world_of p.world) p.held n (map seen_out p.added) p.world.admission.config.limits.some_batch intake few);
+        (giving-no-entries (setup_of p.world) (map read_input p.inputs) (world_of p.world) p.held n (map seen_out p.added) p.world.registry.config.limits.some_batch intake few);
     lags = λ some. let none : is_collecting p.stage ≡ false = ap is_collecting is in cc;
   }

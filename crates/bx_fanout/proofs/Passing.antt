@@ -65,7 +65,7 @@ module _ {P : Type 0} {g : Ghosts P} where
       let intake : IsTakenIn (setup_of p.world) inputs (world_of p.world) p.held n (map seen_out p.added) = intake-at (setup_of p.world) inputs (world_of p.world) p.held p.stage n (map seen_out p.added) is i.staged in
       record {
         counted = i.counted;
-        staged = intake-ready (setup_of p.world) inputs (world_of p.world) p.held n m (map seen_out p.added) p.world.admission.config.limits.some_batch intake (so_far (setup_of p.world) (world_of p.world)) collects;
+        staged = intake-ready (setup_of p.world) inputs (world_of p.world) p.held n m (map seen_out p.added) p.world.registry.config.limits.some_batch intake (so_far (setup_of p.world) (world_of p.world)) collects;
         lags = λ some. i.lags (ap is_collecting is);
       }
 
@@ -75,6 +75,6 @@ module _ {P : Type 0} {g : Ghosts P} where
       let more = consistent-ready p n m is so_far collects i in
       record {
         counted = i.counted;
-        staged = giving-at-once (setup_of p.world) (map read_input p.inputs) (world_of p.world) p.held m (map seen_out p.added) p.world.admission.config.limits.some_batch bare more.staged none;
+        staged = giving-at-once (setup_of p.world) (map read_input p.inputs) (world_of p.world) p.held m (map seen_out p.added) p.world.registry.config.limits.some_batch bare more.staged none;
         lags = λ some. let no : false ≡ true = some in cc;
       }

@@ -60,7 +60,7 @@ module _ {P : Type 0} {g : Ghosts P} where
   level-of new s settled = record {
     list = (giving-settled new s settled).list;
     level = λ k n found. at-end (length (world_of new.world).list) n (settled.level k n found) (settled.within k n found);
-    holds = λ k s found. (new.world.holding k s found).holds;
+    holds = λ k s found. (new.world.holds.holding k s found).holds;
   }
 
   pub run-is : (old new : RoundState P g) (inputs : List Input) (before after : List Out) (r : Result (Unit {0}) RoundFault) → 0 < (setup_of new.world).config.limits.batch → IsConsistent new → Runs old inputs before after new r → IsRun old inputs before after new r

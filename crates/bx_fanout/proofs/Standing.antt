@@ -52,5 +52,5 @@ module _ {P : Type 0} {g : Ghosts P} where
   level-intake p v shards list applied done i = record {
     list = list ∙ (giving-done p done i).list;
     level = λ k n found. each-same shards (length (world_of p.world).list) k n (sym (ap (λ (ns : List ℕ). slice_get ns k) applied) ∙ found) ∙ sym (ap (λ (ls : List Listed). length ls) list);
-    holds = λ k s found. (v.holding k s found).holds;
+    holds = λ k s found. (v.holds.holding k s found).holds;
   }

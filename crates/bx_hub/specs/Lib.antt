@@ -1,3 +1,4 @@
+pub mod Admissions
 pub mod Advancing
 pub mod Changes
 pub mod Consistency

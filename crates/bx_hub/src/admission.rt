@@ -1,4 +1,4 @@
-ghost use Rattle.std.specs.Prelude.{◌≡◌, ◌<◌, ◌≤◌, ◌++◌, ◌∷◌, ◌⊎◌, drop, length, [], None, Some, true, false, is_some, IfOk, IfErr, IfSome, IfNone, MatchOption, MatchResult, OnOk, OnErr};
+ghost use Rattle.std.specs.Prelude.{◌≡◌, ◌<◌, ◌++◌, ◌∷◌, ◌⊎◌, drop, length, [], None, Some, true, false, IfOk, IfErr, IfSome, IfNone, MatchOption, OnOk, OnErr};
 ghost use Rattle.std.specs.Option.{ForSome};
 ghost use mathlib.Core.List.{IsPrefix};
 ghost use Rattle.bx_registry.specs.Slots.{admitted_slots};
@@ -6,12 +6,11 @@ ghost use Rattle.bx_registry.specs.Standings.{Continues};
 ghost use Rattle.bx_entry.specs.Inputs.{IsFault, added_by, refusal_of};
 ghost use Rattle.bx_window.specs.Steps.{adding, below, firsts_of, inputs_of, list_of, setup_of};
 ghost use Rattle.bx_hub.specs.declared.shard_state.evidence.ShardChange.TheVariants as changes;
-ghost use Rattle.bx_hub.specs.declared.fault.PostFault.TheVariants as faults;
 ghost use Rattle.bx_hub.specs.Submissions.{input_of};
 ghost use Rattle.bx_hub.specs.Records.{input_in, inputs_by, list_by};
 ghost use Rattle.bx_record.specs.Record.{record_of};
 ghost use Rattle.bx_hub.specs.Surveys.{survey_of};
-ghost use Rattle.bx_hub.specs.Posts.{AreSlotsAt, IsAdmittedAt, IsGrown, IsRefused, IsTrimmedTo, IsUnpublished, IsWhole};
+ghost use Rattle.bx_hub.specs.Posts.{IsRefused, IsTrimmedTo, IsUnpublished, IsWhole};
 
 mod lock;
 
@@ -58,6 +57,7 @@ pub(crate) struct Admission<L: LogId, R: Wait + Drop> {
 
 impl<L: LogId, R: Wait + Drop> Admission<L, R> {
     ghost use Rattle.bx_hub.specs.Advancing.{lowest_of};
+    ghost use Rattle.bx_hub.specs.Admissions.{HasNoRecord, HasRecorded, HasSeenAll, HasSlotsIn, IsAdmittedIn, IsAppended, IsPublished, KeepsAllButRecord, KeepsLog, KeepsRecord, TellsClosed};
     ghost use Rattle.bx_hub.specs.Recordings.{IsRecorded};
 
     pub(crate) fn new(
@@ -102,17 +102,16 @@ impl<L: LogId, R: Wait + Drop> Admission<L, R> {
     ) -> Result<Admitted, PostFault>
         requires placing { P.place_of placing.now ≡ L.placing }
         ensures seen { IsPrefix pass.old pass.new }
-        ensures admitted { IfOk result (λ a. IsAdmittedAt (input_of wanted.now) a.first pass.old pass.new) }
-        ensures slots { IfOk result (λ a. AreSlotsAt (setup_of L.config L.placing) (input_of wanted.now) a.first
-            pass.new a.slots) }
+        ensures admitted { IfOk result (IsAdmittedIn wanted.now pass.old pass.new) }
+        ensures slots { IfOk result (HasSlotsIn (setup_of L.config L.placing) wanted.now pass.new) }
         ensures refused { IfErr result (λ f. IsRefused (input_of wanted.now) f pass.new) }
-        ensures whole { MatchResult result (λ a. pass.new ≡ self.new.writer) (λ f. IsWhole f pass.new self.new.writer) }
-        ensures grown { IfOk result (λ a. IsGrown (input_of wanted.now) (inputs_by wanted.now) a.first self.old.writer pass.new) }
-        ensures same { OnErr result ((self.new.writer ≡ self.old.writer) × (self.new.recording ≡ self.old.recording) × (self.new.record_end ≡ self.old.record_end)) }
-        ensures closed { IfErr result (λ f. (f ≡ faults.Closed → self.old.closed ≡ true) × (self.old.closed ≡ true → f ≡ faults.Closed)) }
+        ensures whole { HasSeenAll result pass.new self.new.writer }
+        ensures grown { IfOk result (IsAppended wanted.now self.old.writer pass.new) }
+        ensures same { OnErr result (KeepsLog self.old self.new) }
+        ensures closed { IfErr result (TellsClosed self.old.closed) }
         ensures open { OnOk result (self.old.closed ≡ false) }
         ensures kept { self.new.closed ≡ self.old.closed }
-        ensures recorded { OnOk result (IsRecorded self.old.writer (record_of (inputs_by wanted.now)) self.old.recording self.old.record_end self.new.recording self.new.record_end) }
+        ensures recorded { OnOk result (HasRecorded wanted.now self.old self.new) }
     {
         if self.closed {
             return Err(PostFault::Closed);
@@ -144,7 +143,7 @@ impl<L: LogId, R: Wait + Drop> Admission<L, R> {
         requires inputs { ForSome recording (λ r. r.inputs ≡ inputs_of before) }
         requires listed { list_by (inputs_of before) ≡ list_of before }
         requires grown { inputs_of self.old.writer ≡ inputs_of before ++ inputs_by listed.now }
-        ensures same { (self.new.registry ≡ self.old.registry) × (self.new.writer ≡ self.old.writer) × (self.new.closed ≡ self.old.closed) }
+        ensures same { KeepsAllButRecord self.old self.new }
         ensures recorded { IsRecorded before (record_of (inputs_by listed.now)) recording self.old.record_end self.new.recording self.new.record_end }
     {
         match recording {
@@ -166,7 +165,7 @@ impl<L: LogId, R: Wait + Drop> Admission<L, R> {
     ///
     /// Returns the front at which the record begins, or the front of a list that is not empty.
     pub(crate) fn start_record(&mut self, alloc: Global) -> Result<RecordFront<L>, Front<L>>
-        ensures same { (self.new.registry ≡ self.old.registry) × (self.new.writer ≡ self.old.writer) × (self.new.closed ≡ self.old.closed) }
+        ensures same { KeepsAllButRecord self.old self.new }
         ensures started { IfOk result (λ it. (it.front ≡ []) × (self.old.writer ≡ [])
             × MatchOption self.new.recording ⊥ (λ r. (r.from.front ≡ []) × (r.waiting ≡ []))) }
         ensures refused { IfErr result (λ front. (front ≡ self.old.writer) × (0 < length front)
@@ -182,8 +181,8 @@ impl<L: LogId, R: Wait + Drop> Admission<L, R> {
     }
 
     pub(crate) fn stop_record(&mut self)
-        ensures same { (self.new.registry ≡ self.old.registry) × (self.new.writer ≡ self.old.writer) × (self.new.closed ≡ self.old.closed) }
-        ensures none { (self.new.recording ≡ None) × (self.new.record_end ≡ None) }
+        ensures same { KeepsAllButRecord self.old self.new }
+        ensures none { HasNoRecord self.new }
     {
         self.recording = None;
         self.record_end = None;
@@ -207,16 +206,16 @@ impl<L: LogId, R: Wait + Drop> Admission<L, R> {
         empty: Vec<u8>,
     ) -> Option<TakenText<RecordFront<L>, RecordFault>>
         requires { empty.items ≡ [] }
-        ensures same { (self.new.registry ≡ self.old.registry) × (self.new.writer ≡ self.old.writer) × (self.new.closed ≡ self.old.closed) }
+        ensures same { KeepsAllButRecord self.old self.new }
         ensures taken { IfSome self.old.recording (λ r. MatchOption result ⊥ (λ t. (t.chunk.from ≡ r.from) × (t.chunk.to.front ≡ self.old.writer) × (t.chunk.bytes.items ≡ r.waiting) × (t.fault ≡ None))) }
         ensures left { IfSome self.old.recording (λ _. MatchOption self.new.recording ⊥ (λ r. (r.from.front ≡ self.old.writer) × (r.waiting ≡ []))) }
         ensures end { IfNone self.old.recording (IfSome self.old.record_end (λ e. MatchOption result ⊥ (λ t. (t.chunk.from ≡ e.recording.from) × (t.chunk.to.front ≡ e.front) × (t.chunk.bytes.items ≡ e.recording.waiting) × (t.fault ≡ Some e.fault)))) }
         ensures none { IfNone self.old.recording (IfNone self.old.record_end (result ≡ None)) }
-        ensures gone { IfNone self.old.recording ((self.new.recording ≡ None) × (self.new.record_end ≡ None)) }
-        ensures nothing { IfNone result ((self.new.recording ≡ None) × (self.new.record_end ≡ None)) }
+        ensures gone { IfNone self.old.recording (HasNoRecord self.new) }
+        ensures nothing { IfNone result (HasNoRecord self.new) }
     {
         if let Some(mut recording) = self.recording.take() {
-            let chunk = recording.take(self.writer.tell(), empty);
+            let chunk = recording.take_text(self.writer.tell(), empty);
             self.recording = Some(recording);
             return Some(TakenText { chunk, fault: None });
         }
@@ -226,7 +225,7 @@ impl<L: LogId, R: Wait + Drop> Admission<L, R> {
             fault,
         } = self.record_end.take()?;
         Some(TakenText {
-            chunk: recording.take(front, empty),
+            chunk: recording.take_text(front, empty),
             fault: Some(fault),
         })
     }
@@ -275,17 +274,15 @@ impl<L: LogId, R: Wait + Drop> Admission<L, R> {
         requires some { 0 < length plan.batch.entries }
         requires whole { pass.old ≡ self.old.writer }
         ensures seen { IsPrefix pass.old pass.new }
-        ensures taken { IfOk result (λ a. (a ≡ record { first = plan.batch.first; slots = plan.slots })
-            × (list_of pass.new ≡ list_of pass.old ++ plan.elements)) }
+        ensures taken { IfOk result (IsPublished plan pass.old pass.new) }
         ensures step { OnOk result (pass.new ≡ pass.old ++ adding plan.elements (inputs_by wanted.now) ∷ []) }
-        ensures inputs { OnOk result (inputs_of pass.new ≡ inputs_of pass.old ++ inputs_by wanted.now) }
         ensures refused { IfErr result (λ f. IsUnpublished f pass.new) }
         ensures same { OnErr result ((self.new.writer ≡ self.old.writer) × (pass.new ≡ pass.old)) }
-        ensures unrecorded { OnErr result ((self.new.recording ≡ self.old.recording) × (self.new.record_end ≡ self.old.record_end)) }
+        ensures unrecorded { OnErr result (KeepsRecord self.old self.new) }
         ensures whole { pass.new ≡ self.new.writer }
         ensures room { IfErr result (λ f. IsWhole f pass.new self.new.writer) }
         ensures kept { self.new.closed ≡ self.old.closed }
-        ensures recorded { OnOk result (IsRecorded self.old.writer (record_of (inputs_by wanted.now)) self.old.recording self.old.record_end self.new.recording self.new.record_end) }
+        ensures recorded { OnOk result (HasRecorded wanted.now self.old self.new) }
     {
         let Plan {
             batch,

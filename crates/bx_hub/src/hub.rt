@@ -1,4 +1,4 @@
-ghost use Rattle.std.specs.Prelude.{◌≡◌, ◌≢◌, ◌⊎◌, ◌≤◌, ◌<◌, ◌++◌, [], length, Ok, None, Some, IsErr, OnOk, IfOk, IfErr, IfSome, IfNone, IsSomeAnd, MatchOption, is_some, nat_lt};
+ghost use Rattle.std.specs.Prelude.{◌≡◌, ◌≢◌, ◌≤◌, ◌<◌, ◌++◌, [], length, Ok, None, Some, IsErr, OnOk, IfOk, IfErr, IfSome, IfNone, IsSomeAnd, MatchOption};
 ghost use Rattle.std.specs.Arc.{arc_value};
 ghost use mathlib.Core.List.{IsPrefix};
 ghost use Rattle.bx_entry.specs.Requests.{read_input};
@@ -6,24 +6,25 @@ ghost use Rattle.bx_entry.specs.declared.input.Input.TheVariants as inputs;
 ghost use Rattle.bx_window.specs.Steps.{inputs_of, list_of, setup_of};
 ghost use Rattle.bx_hub.specs.Faults.{IsStopped};
 
+mod changes;
+mod records;
+mod surveys;
+
 use crate::admission::{Admission, AdmissionLock};
 use crate::fault::{PostFault, PostReceipt, TickReceipt};
 use crate::kind::HubKind;
 use crate::parsed_request::{ParsedRequest, Rejection};
-use crate::recording::{NotRecording, RecordFront};
 use crate::shard_state::{
-    AddedWakers, ChangeEvidence, LockedShard, NoAnswer, PolledAnswer, SessionEvidence,
-    ShardAdvance, ShardChange, ShardState, TakenMark, Unfiled, WatchEvidence,
+    AddedWakers, LockedShard, NoAnswer, PolledAnswer, ShardAdvance, ShardState, TakenMark, Unfiled,
+    WatchEvidence,
 };
 use crate::submission::{Submission, Tick};
-use crate::survey::{ShardSurvey, Survey};
-use crate::walk::{AdvanceReport, ChangeReport};
+use crate::walk::AdvanceReport;
 use bx_advice::Config;
 use bx_connects::Watch;
 use bx_entry::{Admitted, Arrival, Ticket};
 use bx_message::Answer;
-use bx_record::{RecordFault, TakenText};
-use bx_shard::{SessionSurvey, Wakers};
+use bx_shard::Wakers;
 use bx_window::{EmptyWindow, Front, log_pair};
 use futures::task::Waker;
 use std::alloc::{AllocError, Global};
@@ -67,12 +68,9 @@ impl<L: HubKind, R: Wait + Drop> Hub<L, R> {
     ghost use Rattle.bx_hub.specs.Submissions.{input_of};
     ghost use Rattle.bx_hub.specs.Records.{EndsIn, inputs_by, inputs_from};
     ghost use Rattle.bx_hub.specs.Posts.{AreSlotsAt, IsAdmittedAt, IsRefused, IsTrimmedTo, IsWithoutRoom};
-    ghost use Rattle.bx_hub.specs.Surveys.{IsSessionOf, survey_of};
     ghost use Rattle.bx_hub.specs.Waking.{put_of};
-    ghost use Rattle.bx_hub.specs.Changes.{AreAllChanged, IsChanged, IsKeptBy};
     ghost use Rattle.bx_connects.specs.declared.watch.Watch.TheVariants as watches;
     ghost use Rattle.bx_hub.specs.Watches.{IsBack, IsToldOf};
-    ghost use Rattle.bx_hub.specs.declared.shard_state.evidence.ShardChange.TheVariants as changes;
 
     /// Creates a hub with an empty list and `config.shards` shards.
     ///
@@ -175,7 +173,7 @@ impl<L: HubKind, R: Wait + Drop> Hub<L, R> {
         ensures behind { IfOk result (λ p. IsOfAll L.config.shards pass.new p.advanced) }
         ensures inputs { OnOk result (EndsIn (inputs_of pass.new) (inputs_from (inputs.Post arrival))) }
     {
-        let request = ParsedRequest::of(alloc, arrival)?;
+        let request = ParsedRequest::parse(alloc, arrival)?;
         let wanted = Submission::Request(&request);
         let Admitted { first, slots } = match self.admit(rt, alloc, pass, &wanted) {
             Ok(admitted) => admitted,
@@ -251,16 +249,16 @@ impl<L: HubKind, R: Wait + Drop> Hub<L, R> {
         let mut admission = self.admission.lock(rt);
         match admission.admit(alloc, &*self.placing, pass, wanted) {
             Err(PostFault::Behind { .. }) => {}
-            Err(fault) => return Err(Rejection::of(&*admission, fault, None)),
+            Err(fault) => return Err(Rejection::new(&*admission, fault, None)),
             Ok(admitted) => return Ok(admitted),
         }
-        let lowest = match self.make_room(rt, alloc, &mut admission, pass) {
+        let lowest = match self.advance_and_trim(rt, alloc, &mut admission, pass) {
             Ok(lowest) => lowest,
-            Err((fault, lag)) => return Err(Rejection::of(&*admission, fault, lag)),
+            Err((fault, lag)) => return Err(Rejection::new(&*admission, fault, lag)),
         };
         match admission.admit(alloc, &*self.placing, pass, wanted) {
             Ok(admitted) => Ok(admitted),
-            Err(fault) => Err(Rejection::of(&*admission, fault, Some(lowest))),
+            Err(fault) => Err(Rejection::new(&*admission, fault, Some(lowest))),
         }
     }
 
@@ -268,7 +266,7 @@ impl<L: HubKind, R: Wait + Drop> Hub<L, R> {
     // shard with the lowest position. Fails if this shard is overrun or was not found. On an
     // overrun, `pass` grows to what the shard's reader has seen.
     #[tactic(auto, using(crate::proofs::Lags::without_room))]
-    fn make_room<W: Wait>(
+    fn advance_and_trim<W: Wait>(
         &self,
         rt: &W,
         alloc: Global,
@@ -473,211 +471,6 @@ impl<L: HubKind, R: Wait + Drop> Hub<L, R> {
                 let evidence = WatchEvidence::misplaced(&*other, &ticket, seen, &said);
                 (said, Some(evidence))
             }
-        }
-    }
-
-    /// Returns the state of the list and the sessions. `pass` has then seen the whole list.
-    ///
-    /// # Blocking
-    ///
-    /// Locks admission.
-    pub fn survey<W: Wait>(&self, rt: &W, pass: &mut Pass<L>) -> Survey
-        ensures seen { IsPrefix pass.old pass.new }
-        ensures counted { result ≡ survey_of L.config pass.new }
-    {
-        self.admission.lock(rt).survey(pass)
-    }
-
-    /// Returns the state of shard `shard`, if it exists.
-    ///
-    /// # Blocking
-    ///
-    /// Locks the shard.
-    pub fn survey_shard<W: Wait>(&self, rt: &W, shard: usize) -> Option<ShardSurvey>
-        ensures { is_some result ≡ nat_lt shard L.config.shards }
-    {
-        let shard_state = self.shards.get(shard)?;
-        Some(shard_state.lock(rt).survey())
-    }
-
-    /// Returns what an operator sees of a session of a shard, with evidence of that.
-    ///
-    /// Returns `None` if the shard does not exist, or has no session at `index`. If a session is
-    /// opened or closed, indexes of others may change.
-    ///
-    /// # Blocking
-    ///
-    /// Locks the shard, while the session's patterns are cloned.
-    pub fn survey_session<W: Wait>(
-        &self,
-        rt: &W,
-        alloc: Global,
-        shard: usize,
-        index: usize,
-    ) -> Result<Option<(SessionSurvey, SessionEvidence<L>)>, AllocError>
-        ensures shown { IfOk result (λ survey. IfSome survey (λ s. IsSessionOf (setup_of L.config L.placing) shard index s.0 s.1)) }
-        ensures unknown { L.config.shards ≤ shard → result ≡ Ok None }
-    {
-        if shard >= self.shards.len() {
-            return Ok(None);
-        }
-        match self.lock_shard(rt, shard) {
-            Ok((shard_state, _)) => shard_state.survey_session(alloc, index),
-            Err(_) => Ok(None),
-        }
-    }
-
-    /// Starts to record what is appended to the list, which must be empty.
-    ///
-    /// Returns the front at which the record begins.
-    ///
-    /// # Errors
-    ///
-    /// The front of the list, if it is not empty.
-    ///
-    /// # Blocking
-    ///
-    /// Locks admission.
-    pub fn start_record<W: Wait>(&self, rt: &W, alloc: Global) -> Result<RecordFront<L>, Front<L>>
-        ensures started { IfOk result (λ it. it.front ≡ []) }
-        ensures refused { IfErr result (λ front. 0 < length front) }
-    {
-        self.admission.lock(rt).start_record(alloc)
-    }
-
-    /// Returns how many bytes of the record wait to be written; 0 without a record.
-    ///
-    /// # Blocking
-    ///
-    /// Locks admission.
-    pub fn waiting_record_bytes<W: Wait>(&self, rt: &W) -> usize {
-        self.admission.lock(rt).waiting_record_bytes()
-    }
-
-    /// Takes what waits to be written to the record, and leaves `empty` in its place.
-    ///
-    /// If a fault ended the record, returns its rest once, with the fault.
-    ///
-    /// # Errors
-    ///
-    /// `NotRecording` if nothing is recorded, or if the rest of an ended record was already taken.
-    ///
-    /// # Blocking
-    ///
-    /// Locks admission.
-    pub fn take_record<W: Wait>(
-        &self,
-        rt: &W,
-        empty: Vec<u8>,
-    ) -> Result<TakenText<RecordFront<L>, RecordFault>, NotRecording<L>>
-        requires { empty.items ≡ [] }
-    {
-        let mut admission = self.admission.lock(rt);
-        match admission.take_record(empty) {
-            Some(taken) => Ok(taken),
-            None => Err(NotRecording::of(&*admission)),
-        }
-    }
-
-    /// Stops recording, drops what waits to be written, and returns evidence of that.
-    ///
-    /// # Blocking
-    ///
-    /// Locks admission.
-    pub fn stop_record<W: Wait>(&self, rt: &W) -> NotRecording<L> {
-        let mut admission = self.admission.lock(rt);
-        admission.stop_record();
-        NotRecording::of(&*admission)
-    }
-
-    /// Drops the answers that were filed by entries before place `before` and never taken.
-    ///
-    /// Returns evidence of that, with the number of dropped answers.
-    ///
-    /// # Blocking
-    ///
-    /// Locks each shard in turn.
-    pub fn sweep<W: Wait>(&self, rt: &W, before: u64) -> ChangeReport<L>
-        ensures { AreAllChanged L.config.shards (changes.Sweep before) result }
-    {
-        let mut all = ChangeReport::sweeping(before);
-        self.change_all(rt, ShardChange::Sweep { before }, &mut all);
-        all
-    }
-
-    /// Pauses a shard until [`resume`](Self::resume), and returns evidence of that.
-    ///
-    /// The window keeps the entries that the shard has yet to apply. A closed shard stays closed.
-    ///
-    /// # Blocking
-    ///
-    /// Locks the shard.
-    pub fn pause<W: Wait>(&self, rt: &W, shard: usize) -> Option<ChangeEvidence<L>>
-        ensures some { is_some result ≡ nat_lt shard L.config.shards }
-        ensures changed { IfSome result (IsChanged shard changes.Pause) }
-    {
-        if shard >= self.shards.len() {
-            return None;
-        }
-        Some(self.change(rt, shard, ShardChange::Pause))
-    }
-
-    /// Resumes a shard, and returns evidence of that.
-    ///
-    /// The next call that advances the shard applies what it lacks. A closed shard stays closed.
-    ///
-    /// # Blocking
-    ///
-    /// Locks the shard.
-    pub fn resume<W: Wait>(&self, rt: &W, shard: usize) -> Option<ChangeEvidence<L>>
-        ensures some { is_some result ≡ nat_lt shard L.config.shards }
-        ensures changed { IfSome result (IsChanged shard changes.Resume) }
-    {
-        if shard >= self.shards.len() {
-            return None;
-        }
-        Some(self.change(rt, shard, ShardChange::Resume))
-    }
-
-    /// Closes the hub: no entry is appended or applied any more.
-    ///
-    /// Filed answers can still be taken. Returns evidence that admission and all shards are closed.
-    ///
-    /// # Blocking
-    ///
-    /// Locks admission, then each shard in turn. Tasks with a held connect are woken under its
-    /// lock.
-    pub fn close<W: Wait>(&self, rt: &W) -> ChangeReport<L>
-        ensures { AreAllChanged L.config.shards changes.Shut result }
-    {
-        let mut all = self.admission.lock(rt).close();
-        self.change_all(rt, ShardChange::Shut, &mut all);
-        all
-    }
-
-    fn change_all<W: Wait>(&self, rt: &W, change: ShardChange, all: &mut ChangeReport<L>)
-        requires none { all.old.done ≡ [] }
-        requires change { all.old.change.value ≡ change }
-        ensures { AreAllChanged L.config.shards change all.new }
-    {
-        for index in 0..self.shards.len() {
-            all.add(self.change(rt, index, change));
-        }
-    }
-
-    fn change<W: Wait>(&self, rt: &W, index: usize, change: ShardChange) -> ChangeEvidence<L>
-        requires { index < length self.now.shards.items }
-        ensures changed { IsChanged index change result }
-        ensures kept { IsKeptBy change result }
-    {
-        match self.lock_shard(rt, index) {
-            Ok((mut shard_state, taken)) => {
-                let changed = shard_state.change(change);
-                changed.unlocked(taken.unlock(shard_state))
-            }
-            Err((other, taken)) => ChangeEvidence::misplaced(&*other, &index, change).unlocked(
-                taken.unlock(other),
-            ),
         }
     }
 }

@@ -31,7 +31,7 @@ impl ParsedRequest {
     /// # Errors
     ///
     /// `arrival`, with the reason.
-    pub(crate) fn of<L: LogId>(
+    pub(crate) fn parse<L: LogId>(
         alloc: Global,
         arrival: Arrival,
     ) -> Result<ParsedRequest, (Arrival, Rejection<L>)>

@@ -30,7 +30,7 @@ pub struct RecordFront<L: LogId> {
 
 impl<L: LogId> RecordFront<L> {
     // The list of `front` must result from its requests and ticks, all of which are recordable.
-    fn of(front: Front<L>) -> RecordFront<L>
+    fn new(front: Front<L>) -> RecordFront<L>
         requires listed { list_by (inputs_of front) ≡ list_of front }
         requires recordable { AllByRecursion CanRecord (inputs_of front) }
         ensures { result.front ≡ front }
@@ -81,7 +81,7 @@ pub struct NotRecording<L: LogId> {
 }
 
 impl<L: LogId> NotRecording<L> {
-    pub(crate) fn of<R: Wait + Drop>(admission: &Admission<L, R>) -> NotRecording<L>
+    pub(crate) fn new<R: Wait + Drop>(admission: &Admission<L, R>) -> NotRecording<L>
         requires recording { admission.now.recording ≡ None }
         requires end { admission.now.record_end ≡ None }
     {
@@ -140,7 +140,7 @@ impl<L: LogId> Recording<L> {
     ///
     /// Returns the text since the last call, up to `upto`, which must be the front that ends with
     /// the last recorded request or tick.
-    pub(crate) fn take(&mut self, upto: Front<L>, empty: Vec<u8>) -> Chunk<RecordFront<L>>
+    pub(crate) fn take_text(&mut self, upto: Front<L>, empty: Vec<u8>) -> Chunk<RecordFront<L>>
         requires inputs { self.old.inputs ≡ inputs_of upto }
         requires listed { list_by self.old.inputs ≡ list_of upto }
         requires empty { empty.items ≡ [] }
@@ -148,7 +148,7 @@ impl<L: LogId> Recording<L> {
         ensures bytes { result.bytes.items ≡ self.old.waiting }
         ensures left { (self.new.from.front ≡ upto) × (self.new.waiting ≡ []) × (self.new.inputs ≡ self.old.inputs) }
     {
-        let to = RecordFront::of(upto);
+        let to = RecordFront::new(upto);
         let from = mem::replace(&mut self.from, to.again());
         Chunk::new(from, to, self.waiting.take(empty))
     }

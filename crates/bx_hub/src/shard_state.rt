@@ -171,7 +171,7 @@ impl<L: LogId, P: Placing> ShardState<L, P> {
             _ => None,
         };
         let woken = AddedWakers::since(before, wakers);
-        ShardAdvance::of(self, prefix, stays, woken)
+        ShardAdvance::new(self, prefix, stays, woken)
     }
 
     fn learn(&mut self, prefix: &Front<L>)
@@ -254,7 +254,7 @@ impl<L: LogId, P: Placing> ShardState<L, P> {
     }
 
     // A ticket of another shard has no answer.
-    fn take(&mut self, ticket: Ticket) -> Option<Answer>
+    fn take_filed(&mut self, ticket: Ticket) -> Option<Answer>
         ensures answer { IfSome result (λ a. answer_over L.config self.old.prefix ticket.place ≡ Some a) }
         ensures filed { result ≡ (if nat_eq ticket.shard self.old.shard.index then filed_answer (connect_in (state P.place_of self.old.shard) ticket.place) else None) }
         ensures taken { self.new.taken ≡ (if is_some result then self.old.taken ++ ticket.place ∷ [] else self.old.taken) }
@@ -285,9 +285,9 @@ impl<L: LogId, P: Placing> ShardState<L, P> {
         ensures same { (self.new.prefix ≡ self.old.prefix) × (self.new.reader ≡ self.old.reader) × (self.new.activity ≡ self.old.activity) }
         ensures index { self.new.shard.index ≡ self.old.shard.index }
     {
-        match self.take(ticket) {
+        match self.take_filed(ticket) {
             Some(answer) => (Some(answer), None),
-            None => (None, Some(Unfiled::of(self, &ticket))),
+            None => (None, Some(Unfiled::new(self, &ticket))),
         }
     }
 
@@ -322,7 +322,7 @@ impl<L: LogId, P: Placing> ShardState<L, P> {
         ensures kept { (self.new.shard.index ≡ self.old.shard.index) × (self.new.activity ≡ self.old.activity) }
     {
         let before = listed(wakers);
-        if let Some(answer) = self.take(ticket) {
+        if let Some(answer) = self.take_filed(ticket) {
             *pass = pass.longer(&self.prefix);
             return (Ok(Some(answer)), None, AddedWakers::since(before, wakers));
         }
@@ -334,10 +334,10 @@ impl<L: LogId, P: Placing> ShardState<L, P> {
             }
             Err(fault) => {
                 *pass = self.front();
-                if let Some(filed) = self.take(ticket) {
+                if let Some(filed) = self.take_filed(ticket) {
                     return (Ok(Some(filed)), None, AddedWakers::since(before, wakers));
                 }
-                let no_answer = NoAnswer::of(self, &ticket, fault);
+                let no_answer = NoAnswer::new(self, &ticket, fault);
                 (Err(no_answer), None, AddedWakers::since(before, wakers))
             }
         }
@@ -359,7 +359,7 @@ impl<L: LogId, P: Placing> ShardState<L, P> {
     {
         let seen = Snapshot::of(&waker);
         let said = self.leave(ticket, waker);
-        let evidence = WatchEvidence::of(self, &ticket, seen, &said);
+        let evidence = WatchEvidence::registered(self, &ticket, seen, &said);
         (said, evidence)
     }
 
@@ -398,7 +398,7 @@ impl<L: LogId, P: Placing> ShardState<L, P> {
             }
             ShardChange::Sweep { before } => self.sweep(before),
         };
-        ChangeEvidence::of(self, change, dropped)
+        ChangeEvidence::new(self, change, dropped)
     }
 
     fn sweep(&mut self, before: u64) -> usize
@@ -438,7 +438,7 @@ impl<L: LogId, P: Placing> ShardState<L, P> {
         let Some(survey) = self.shard.sessions().survey(alloc, index)? else {
             return Ok(None);
         };
-        let evidence = SessionEvidence::of(self, &index, &survey);
+        let evidence = SessionEvidence::new(self, &index, &survey);
         Ok(Some((survey, evidence)))
     }
 

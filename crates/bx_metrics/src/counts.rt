@@ -2,9 +2,13 @@ ghost use Rattle.std.specs.Prelude.{◌≡◌, slice_get, unwrap_or};
 
 use crate::histogram::{BUCKETS, bucket_of};
 use crate::metric::{METRICS, Metric};
+use crate::response::ServerHealth;
 use std::alloc::{AllocError, Global};
 use std::sync::atomic::{AtomicBool, AtomicU64, Ordering};
 use std::time::Duration;
+
+// Milliseconds after which a server that applies no tick is not healthy. Policy of this server.
+const TICK_PATIENCE: u64 = 2000;
 
 /// The current metrics, how many entries each shard lacks, and whether the server listens.
 ///
@@ -18,6 +22,8 @@ pub struct Counts {
     // The time that all requests took, in nanoseconds.
     time: AtomicU64,
     listens: AtomicBool,
+    // The moment of the last tick.
+    last_tick: AtomicU64,
 }
 
 impl Counts {
@@ -29,6 +35,7 @@ impl Counts {
             times: zeros(alloc, BUCKETS)?,
             time: AtomicU64::new(0),
             listens: AtomicBool::new(false),
+            last_tick: AtomicU64::new(0),
         })
     }
 
@@ -87,9 +94,24 @@ impl Counts {
         self.listens.store(listens, Ordering::SeqCst);
     }
 
-    /// Returns `true` if the server listens.
-    pub fn listens(&self) -> bool {
-        self.listens.load(Ordering::SeqCst)
+    /// Records that the tick of `moment` was applied.
+    pub(crate) fn set_last_tick(&self, moment: u64) {
+        self.last_tick.store(moment, Ordering::SeqCst);
+    }
+
+    /// Returns whether the server listens and applies ticks, at the moment `now`.
+    ///
+    /// Moments are milliseconds since the server started.
+    pub fn health(&self, now: u64) -> ServerHealth {
+        if !self.listens.load(Ordering::SeqCst) {
+            return ServerHealth::NotListening;
+        }
+        let waited = now.saturating_sub(self.last_tick.load(Ordering::SeqCst));
+        if waited < TICK_PATIENCE {
+            ServerHealth::Listening
+        } else {
+            ServerHealth::NoTick
+        }
     }
 
     /// Returns a copy of all values.

@@ -6,9 +6,11 @@ use crate::metric::Metric;
 use bx_hub::{Lagging, Survey};
 
 impl Counts {
-    /// Counts an appended tick, and records how many shards have not applied it, `behind`.
-    pub fn add_tick(&self, behind: Lagging) {
+    /// Counts the appended tick of `moment`, and records how many shards have not applied it,
+    /// `behind`.
+    pub fn add_tick(&self, moment: u64, behind: Lagging) {
         self.add(Metric::Ticks, 1);
+        self.set_last_tick(moment);
         self.set(Metric::ShardsBehind, shards_in(behind));
     }
 

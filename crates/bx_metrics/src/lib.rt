@@ -21,7 +21,7 @@ pub use counts::{Counts, MetricValues};
 pub use metric::Metric;
 pub use page::page_text;
 pub use process::{ProcessTexts, ProcessValues};
-pub use response::{MetricsRequest, response_text};
+pub use response::{MetricsRequest, ServerHealth, response_text};
 pub use session_lines::SessionLines;
 pub use settings::PageSettings;
 pub use status_page::STATUS_PAGE;

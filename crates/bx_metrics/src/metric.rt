@@ -43,6 +43,10 @@ pub enum Metric {
     HeldConnects,
     /// Filed answers that nobody has taken, at the last tick.
     FiledAnswers,
+    /// 1 while requests are recorded, otherwise 0.
+    Recording,
+    /// Bytes written to the record.
+    RecordedBytes,
     /// Responses with this status.
     Responses(Status),
     /// Responses without items, for this reason.
@@ -71,7 +75,7 @@ macro_rules! rows {
 }
 
 /// The rows of the metrics page, in order, with those of the same name adjacent.
-pub(crate) const METRICS: [Row; 72] = rows! {
+pub(crate) const METRICS: [Row; 74] = rows! {
     "bayeux_uptime_seconds_total", "counter", "Seconds since the program started.": Metric::Uptime;
     "bayeux_connections", "gauge", "Open connections.": Metric::OpenConnections;
     "bayeux_connections_total", "counter", "Connections accepted.": Metric::AcceptedConnections;
@@ -90,6 +94,8 @@ pub(crate) const METRICS: [Row; 72] = rows! {
     "bayeux_window_batches", "gauge", "Batches in the window.": Metric::Batches;
     "bayeux_connects_held", "gauge", "Held connects.": Metric::HeldConnects;
     "bayeux_answers_filed", "gauge", "Filed answers that nobody has taken.": Metric::FiledAnswers;
+    "bayeux_recording", "gauge", "Whether requests are recorded: 1 or 0.": Metric::Recording;
+    "bayeux_record_bytes_total", "counter", "Bytes written to the record.": Metric::RecordedBytes;
     labels:
     "bayeux_responses_total", "counter", "Responses, by status.": Metric::Responses:
         Status::Ok, Status::BadRequest, Status::Forbidden, Status::NotFound, Status::MethodNotAllowed,
@@ -146,6 +152,8 @@ impl Metric {
             Metric::Batches => 15,
             Metric::HeldConnects => 16,
             Metric::FiledAnswers => 17,
+            Metric::Recording => 18,
+            Metric::RecordedBytes => 19,
             Metric::Responses(status) => place_of_status(status),
             Metric::Refused(error) => place_of_refused(error),
             Metric::SuccessfulReplies(kind) => place_of_kind(kind),
@@ -157,19 +165,19 @@ impl Metric {
 fn place_of_status(status: Status) -> usize
     ensures { place_of (Responses status) ≡ Some result }
 {
-    18 + status as usize
+    20 + status as usize
 }
 
 fn place_of_kind(kind: MessageKind) -> usize
     ensures { place_of (SuccessfulReplies kind) ≡ Some result }
 {
-    49 + kind as usize
+    51 + kind as usize
 }
 
 fn place_of_error(error: Error) -> usize
     ensures { place_of (ErrorReplies error) ≡ Some result }
 {
-    56 + error as usize
+    58 + error as usize
 }
 
 // Errors with the same reason have the same row.
@@ -177,23 +185,23 @@ fn place_of_refused(error: RequestError) -> usize
     ensures { place_of (Refused error) ≡ Some result }
 {
     match error {
-        RequestError::NotFound => 27,
-        RequestError::MethodNotAllowed => 28,
-        RequestError::TransferCoding => 29,
-        RequestError::CallbackPolling => 30,
-        RequestError::MediaType => 31,
-        RequestError::BodyFailed => 32,
-        RequestError::Unreadable(TransportError::TooLarge) => 33,
-        RequestError::Unreadable(TransportError::BadName) => 34,
-        RequestError::Unreadable(TransportError::NoMessage) => 35,
+        RequestError::NotFound => 29,
+        RequestError::MethodNotAllowed => 30,
+        RequestError::TransferCoding => 31,
+        RequestError::CallbackPolling => 32,
+        RequestError::MediaType => 33,
+        RequestError::BodyFailed => 34,
+        RequestError::Unreadable(TransportError::TooLarge) => 35,
+        RequestError::Unreadable(TransportError::BadName) => 36,
+        RequestError::Unreadable(TransportError::NoMessage) => 37,
         RequestError::Unreadable(TransportError::Memory)
         | RequestError::NotAdmitted(PostFault::Memory)
-        | RequestError::Memory => 36,
-        RequestError::NotAdmitted(PostFault::Refused(refusal)) => 37 + refusal as usize,
-        RequestError::NotAdmitted(PostFault::Closed) => 44,
-        RequestError::NotAdmitted(PostFault::Behind { .. }) => 45,
-        RequestError::NotAdmitted(PostFault::Overrun { .. }) => 46,
-        RequestError::NotAdmitted(PostFault::WrongShard { .. }) => 47,
-        RequestError::Unanswered => 48,
+        | RequestError::Memory => 38,
+        RequestError::NotAdmitted(PostFault::Refused(refusal)) => 39 + refusal as usize,
+        RequestError::NotAdmitted(PostFault::Closed) => 46,
+        RequestError::NotAdmitted(PostFault::Behind { .. }) => 47,
+        RequestError::NotAdmitted(PostFault::Overrun { .. }) => 48,
+        RequestError::NotAdmitted(PostFault::WrongShard { .. }) => 49,
+        RequestError::Unanswered => 50,
     }
 }

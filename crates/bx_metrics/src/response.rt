@@ -4,6 +4,16 @@ ghost use Rattle.bx_metrics.specs.Responses.{asked_of, fields_text, message_text
 use itoa::Buffer;
 use std::alloc::{AllocError, Global};
 
+/// What `GET /healthz` reports of a server.
+#[derive(Clone, Copy, Debug, PartialEq, Eq)]
+pub enum ServerHealth {
+    Listening,
+    /// It has not begun to listen, or ends.
+    NotListening,
+    /// It listens, but has applied no tick for two seconds, so that requests wait.
+    NoTick,
+}
+
 /// What a request to the metrics listener asks for.
 #[derive(Clone, Copy, Debug, PartialEq, Eq)]
 pub enum MetricsRequest {
@@ -46,21 +56,22 @@ impl MetricsRequest {
     }
 }
 
-/// Creates the response to `asked`, with the field `connection: close`.
+/// Creates the response to `asked`. Its fields close the connection, and forbid browsers to guess
+/// another media type and to show the page in a frame.
 ///
 /// - `StatusPage`: 200 with `page`, which is HTML
 /// - `Metrics`: 200 with `page`, which is in Prometheus' text format 0.0.4
 /// - `Sessions`, `Channels`: 200 with `page`, which has a JSON value in each line
-/// - `Health`: 200 if `listens`, otherwise 503
+/// - `Health`: 200 if `health` is `Listening`, otherwise 503
 /// - `Other`: 404
 /// - `NoGet`: 405
 pub fn response_text(
     alloc: Global,
     asked: MetricsRequest,
-    listens: bool,
+    health: ServerHealth,
     page: &[u8],
 ) -> Result<Vec<u8>, AllocError>
-    ensures { IfOk result (λ text. text.items ≡ response_text asked listens page.now) }
+    ensures { IfOk result (λ text. text.items ≡ response_text asked health page.now) }
 {
     match asked {
         MetricsRequest::StatusPage => message(
@@ -75,11 +86,22 @@ pub fn response_text(
         ),
         MetricsRequest::Sessions | MetricsRequest::Channels => message(
             alloc,
-            "200 OK\r\ncontent-type: application/x-ndjson",
+            "200 OK\r\ncontent-type: text/plain; charset=utf-8",
             page,
         ),
-        MetricsRequest::Health if listens => message(alloc, "200 OK", b"listening\n"),
-        MetricsRequest::Health => message(alloc, "503 Service Unavailable", b"not listening\n"),
+        MetricsRequest::Health => match health {
+            ServerHealth::Listening => message(alloc, "200 OK", b"listening\n"),
+            ServerHealth::NotListening => message(
+                alloc,
+                "503 Service Unavailable",
+                b"not listening\n",
+            ),
+            ServerHealth::NoTick => message(
+                alloc,
+                "503 Service Unavailable",
+                b"no tick for two seconds\n",
+            ),
+        },
         MetricsRequest::Other => message(alloc, "404 Not Found", b""),
         MetricsRequest::NoGet => message(alloc, "405 Method Not Allowed\r\nallow: GET", b""),
     }
@@ -104,7 +126,7 @@ fn push_fields(text: &mut Vec<u8>, length: usize) -> Result<(), AllocError>
         text,
         "\r\ncontent-length: ",
         length,
-        "\r\nconnection: close\r\n\r\n",
+        "\r\nconnection: close\r\nx-content-type-options: nosniff\r\nx-frame-options: DENY\r\n\r\n",
     )
 }
 

@@ -56,6 +56,7 @@ path { fill: none; stroke-width: 2; stroke-linejoin: round; vector-effect: non-s
 <body>
 <header>
   <h1>bayeuxd</h1>
+  <nav><a href="metrics">Metrics</a> <a href="sessions">Sessions</a> <a href="channels">Channels</a></nav>
   <p id="state" role="status">no data yet</p>
 </header>
 <dl id="facts"></dl>
@@ -101,12 +102,14 @@ const CHARTS = [
   },
   { title: 'Shard lag', unit: 'entries', metric: 'bayeux_shard_lag_entries', nameOf: ({ shard }) => `shard ${shard}`, isLargest: true },
 ];
+// The name of each fact, its text, and what it counts if the name does not say it.
 const FACTS = [
+  ['Version', (of, version) => version],
   ['Uptime', (of) => formatTime(of('bayeux_uptime_seconds_total'))],
   ['Connections', (of) => format(of('bayeux_connections'))],
-  ['Window', (of) => `${format(of('bayeux_window_batches'))} of 4,096`],
-  ['Shards behind', (of) => format(of('bayeux_shards_behind'))],
-  ['No response', (of) => format(of('bayeux_responses_missing_total'))],
+  ['Window', (of) => `${format(of('bayeux_window_batches'))} of 4,096`, 'Batches that a shard still needs'],
+  ['Shards behind', (of) => format(of('bayeux_shards_behind')), 'Shards that had not applied the last tick'],
+  ['No response', (of) => format(of('bayeux_responses_missing_total')), 'Requests dropped for lack of memory'],
   ['Memory', (of) => `${format(of('process_resident_memory_bytes') / 1e6)} MB`],
   ['Open files', (of) => `${format(of('process_open_fds'))} of ${format(of('process_max_fds'))}`],
 ];
@@ -228,9 +231,10 @@ function draw() {
     : last ? `no metrics since ${new Date(last.time).toLocaleTimeString()}` : 'no metrics at this address';
   if (!last) return;
   const of = (name) => last.values.get(name)?.get('')?.value ?? NaN;
-  element('facts').replaceChildren(...FACTS.map(([name, text]) => {
+  const [build] = last.values.get('bayeux_build_info')?.values() ?? [];
+  element('facts').replaceChildren(...FACTS.map(([name, text, title = '']) => {
     const item = document.createElement('div'), term = document.createElement('dt'), value = document.createElement('dd');
-    [term.textContent, value.textContent] = [name, text(of)];
+    [term.textContent, value.textContent, item.title] = [name, text(of, build?.labels.version ?? '–'), title];
     item.append(term, value);
     return item;
   }));

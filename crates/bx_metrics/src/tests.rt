@@ -1,6 +1,6 @@
 use crate::{
     ChannelLines, Counts, Metric, MetricValues, MetricsRequest, PageSettings, ProcessTexts,
-    ProcessValues, STATUS_PAGE, SessionLines, page_text, response_text,
+    ProcessValues, STATUS_PAGE, ServerHealth, SessionLines, page_text, response_text,
 };
 use bx_advice::{BodyLimit, Config, Error};
 use bx_hub::{Lagging, PostFault, SessionSurvey, Survey};
@@ -12,7 +12,7 @@ use std::alloc::Global;
 use std::test::Fail;
 use std::time::Duration;
 
-// The expected page for 70 values: 1, the greatest number, and 3 to 70. The values of the last two
+// The expected page for 72 values: 1, the greatest number, and 3 to 72. The values of the last two
 // metrics are missing. There are two shards.
 const PAGE: &str = r#"# HELP bayeux_uptime_seconds_total Seconds since the program started.
 # TYPE bayeux_uptime_seconds_total counter
@@ -68,66 +68,72 @@ bayeux_connects_held 17
 # HELP bayeux_answers_filed Filed answers that nobody has taken.
 # TYPE bayeux_answers_filed gauge
 bayeux_answers_filed 18
+# HELP bayeux_recording Whether requests are recorded: 1 or 0.
+# TYPE bayeux_recording gauge
+bayeux_recording 19
+# HELP bayeux_record_bytes_total Bytes written to the record.
+# TYPE bayeux_record_bytes_total counter
+bayeux_record_bytes_total 20
 # HELP bayeux_responses_total Responses, by status.
 # TYPE bayeux_responses_total counter
-bayeux_responses_total{status="200"} 19
-bayeux_responses_total{status="400"} 20
-bayeux_responses_total{status="403"} 21
-bayeux_responses_total{status="404"} 22
-bayeux_responses_total{status="405"} 23
-bayeux_responses_total{status="413"} 24
-bayeux_responses_total{status="415"} 25
-bayeux_responses_total{status="501"} 26
-bayeux_responses_total{status="503"} 27
+bayeux_responses_total{status="200"} 21
+bayeux_responses_total{status="400"} 22
+bayeux_responses_total{status="403"} 23
+bayeux_responses_total{status="404"} 24
+bayeux_responses_total{status="405"} 25
+bayeux_responses_total{status="413"} 26
+bayeux_responses_total{status="415"} 27
+bayeux_responses_total{status="501"} 28
+bayeux_responses_total{status="503"} 29
 # HELP bayeux_requests_refused_total Requests without an answer, by reason.
 # TYPE bayeux_requests_refused_total counter
-bayeux_requests_refused_total{status="404",reason="Bayeux is at /cometd"} 28
-bayeux_requests_refused_total{status="405",reason="the method is neither GET nor POST"} 29
-bayeux_requests_refused_total{status="501",reason="the transfer coding is not chunked"} 30
-bayeux_requests_refused_total{status="403",reason="callback-polling is off"} 31
-bayeux_requests_refused_total{status="415",reason="the content type is not application/json"} 32
-bayeux_requests_refused_total{status="400",reason="the body ended early"} 33
-bayeux_requests_refused_total{status="413",reason="the request is too large"} 34
-bayeux_requests_refused_total{status="400",reason="the name of the callback is not valid"} 35
-bayeux_requests_refused_total{status="400",reason="the parameter message is missing"} 36
-bayeux_requests_refused_total{status="503",reason="out of memory"} 37
-bayeux_requests_refused_total{status="400",reason="the messages are not JSON"} 38
-bayeux_requests_refused_total{status="400",reason="a message is not a JSON object"} 39
-bayeux_requests_refused_total{status="400",reason="too many messages in one request"} 40
-bayeux_requests_refused_total{status="400",reason="a message has no channel"} 41
-bayeux_requests_refused_total{status="403",reason="the listener is read-only"} 42
-bayeux_requests_refused_total{status="400",reason="the clock is out of range"} 43
-bayeux_requests_refused_total{status="503",reason="the list is full"} 44
-bayeux_requests_refused_total{status="503",reason="the server is shutting down"} 45
-bayeux_requests_refused_total{status="503",reason="the window is full because a shard lags"} 46
-bayeux_requests_refused_total{status="503",reason="internal error: the window lacks entries that a shard needs"} 47
-bayeux_requests_refused_total{status="503",reason="internal error: the lock of a shard guards another shard"} 48
-bayeux_requests_refused_total{status="503",reason="the answer is unavailable"} 49
+bayeux_requests_refused_total{status="404",reason="Bayeux is at /cometd"} 30
+bayeux_requests_refused_total{status="405",reason="the method is neither GET nor POST"} 31
+bayeux_requests_refused_total{status="501",reason="the transfer coding is not chunked"} 32
+bayeux_requests_refused_total{status="403",reason="callback-polling is off"} 33
+bayeux_requests_refused_total{status="415",reason="the content type is not application/json"} 34
+bayeux_requests_refused_total{status="400",reason="the body ended early"} 35
+bayeux_requests_refused_total{status="413",reason="the request is too large"} 36
+bayeux_requests_refused_total{status="400",reason="the name of the callback is not valid"} 37
+bayeux_requests_refused_total{status="400",reason="the parameter message is missing"} 38
+bayeux_requests_refused_total{status="503",reason="out of memory"} 39
+bayeux_requests_refused_total{status="400",reason="the messages are not JSON"} 40
+bayeux_requests_refused_total{status="400",reason="a message is not a JSON object"} 41
+bayeux_requests_refused_total{status="400",reason="too many messages in one request"} 42
+bayeux_requests_refused_total{status="400",reason="a message has no channel"} 43
+bayeux_requests_refused_total{status="403",reason="the listener is read-only"} 44
+bayeux_requests_refused_total{status="400",reason="the clock is out of range"} 45
+bayeux_requests_refused_total{status="503",reason="the list is full"} 46
+bayeux_requests_refused_total{status="503",reason="the server is shutting down"} 47
+bayeux_requests_refused_total{status="503",reason="the window is full because a shard lags"} 48
+bayeux_requests_refused_total{status="503",reason="internal error: the window lacks entries that a shard needs"} 49
+bayeux_requests_refused_total{status="503",reason="internal error: the lock of a shard guards another shard"} 50
+bayeux_requests_refused_total{status="503",reason="the answer is unavailable"} 51
 # HELP bayeux_replies_total Successful replies, by kind of message.
 # TYPE bayeux_replies_total counter
-bayeux_replies_total{kind="handshake"} 50
-bayeux_replies_total{kind="connect"} 51
-bayeux_replies_total{kind="subscribe"} 52
-bayeux_replies_total{kind="unsubscribe"} 53
-bayeux_replies_total{kind="disconnect"} 54
-bayeux_replies_total{kind="publish"} 55
-bayeux_replies_total{kind="unknown_meta"} 56
+bayeux_replies_total{kind="handshake"} 52
+bayeux_replies_total{kind="connect"} 53
+bayeux_replies_total{kind="subscribe"} 54
+bayeux_replies_total{kind="unsubscribe"} 55
+bayeux_replies_total{kind="disconnect"} 56
+bayeux_replies_total{kind="publish"} 57
+bayeux_replies_total{kind="unknown_meta"} 58
 # HELP bayeux_errors_total Error replies, by error.
 # TYPE bayeux_errors_total counter
-bayeux_errors_total{error="404::Unknown meta channel"} 57
-bayeux_errors_total{error="400::Second handshake"} 58
-bayeux_errors_total{error="400::Unsupported version"} 59
-bayeux_errors_total{error="400::No supported connection type"} 60
-bayeux_errors_total{error="503::Too many sessions"} 61
-bayeux_errors_total{error="401::No client id"} 62
-bayeux_errors_total{error="402::Unknown client"} 63
-bayeux_errors_total{error="400::Unknown connection type"} 64
-bayeux_errors_total{error="400::Invalid channel"} 65
-bayeux_errors_total{error="400::Invalid pattern"} 66
-bayeux_errors_total{error="400::Too many patterns"} 67
-bayeux_errors_total{error="403::Subscription denied"} 68
-bayeux_errors_total{error="400::Missing subscription"} 69
-bayeux_errors_total{error="400::Missing data"} 70
+bayeux_errors_total{error="404::Unknown meta channel"} 59
+bayeux_errors_total{error="400::Second handshake"} 60
+bayeux_errors_total{error="400::Unsupported version"} 61
+bayeux_errors_total{error="400::No supported connection type"} 62
+bayeux_errors_total{error="503::Too many sessions"} 63
+bayeux_errors_total{error="401::No client id"} 64
+bayeux_errors_total{error="402::Unknown client"} 65
+bayeux_errors_total{error="400::Unknown connection type"} 66
+bayeux_errors_total{error="400::Invalid channel"} 67
+bayeux_errors_total{error="400::Invalid pattern"} 68
+bayeux_errors_total{error="400::Too many patterns"} 69
+bayeux_errors_total{error="403::Subscription denied"} 70
+bayeux_errors_total{error="400::Missing subscription"} 71
+bayeux_errors_total{error="400::Missing data"} 72
 bayeux_errors_total{error="408::Superseded connect"} 0
 bayeux_errors_total{error="413::Queue overflow"} 0
 # HELP bayeux_shard_lag_entries Entries of the list that the shard has not applied.
@@ -211,7 +217,7 @@ fn page_of(alloc: Global, metrics: &MetricValues, process: &ProcessValues) -> Re
 fn pages_have_the_rows(rt: HostRuntime) -> Result<(), Fail> {
     let alloc = rt.alloc();
     let mut values = Vec::new(alloc);
-    for value in 1..71 {
+    for value in 1..73 {
         values.push(if value == 2 { u64::MAX } else { value })?;
     }
     let lags = vec![in alloc; 0, 12]?;
@@ -293,9 +299,14 @@ fn pages_are_in_responses(rt: HostRuntime) -> Result<(), Fail> {
     let asked = MetricsRequest::of(b"GET / HTTP/1.1\r\n\r\n");
     assert_eq!(rt; asked, MetricsRequest::StatusPage);
     let length = STATUS_PAGE.len();
-    let text = response_text(alloc, asked, false, STATUS_PAGE.as_bytes())?;
+    let text = response_text(
+        alloc,
+        asked,
+        ServerHealth::NotListening,
+        STATUS_PAGE.as_bytes(),
+    )?;
     let head = format!(in alloc;
-        "HTTP/1.1 200 OK\r\ncontent-type: text/html; charset=utf-8\r\ncontent-length: {length}\r\nconnection: close\r\n\r\n"
+        "HTTP/1.1 200 OK\r\ncontent-type: text/html; charset=utf-8\r\ncontent-length: {length}\r\nconnection: close\r\nx-content-type-options: nosniff\r\nx-frame-options: DENY\r\n\r\n"
     )?;
     assert!(rt; text.starts_with(head.as_bytes()));
     assert!(rt; text.ends_with(b"</html>\n"));
@@ -356,15 +367,18 @@ fn state_is_in_its_metrics(rt: HostRuntime) -> Result<(), Fail> {
         opened: 7,
         batches: 6,
     });
-    counts.add_tick(Lagging::none());
+    counts.add_tick(0, Lagging::none());
     assert_eq!(rt; counts.get(Metric::ShardsBehind), 0);
-    counts.add_tick(Lagging {
-        memory: 1,
-        overrun: 2,
-        paused: 4,
-        closed: 8,
-        misplaced: 16,
-    });
+    counts.add_tick(
+        500,
+        Lagging {
+            memory: 1,
+            overrun: 2,
+            paused: 4,
+            closed: 8,
+            misplaced: 16,
+        },
+    );
     for (metric, value) in [
         (Metric::Entries, 9),
         (Metric::Sessions, 8),
@@ -375,6 +389,18 @@ fn state_is_in_its_metrics(rt: HostRuntime) -> Result<(), Fail> {
     ] {
         assert_eq!(rt; counts.get(metric), value);
     }
+    Ok(())
+}
+
+#[test]
+fn health_is_that_of_listener_and_ticks(rt: HostRuntime) -> Result<(), Fail> {
+    let counts = Counts::new(rt.alloc(), 1)?;
+    assert_eq!(rt; counts.health(9000), ServerHealth::NotListening);
+    counts.set_listens(true);
+    counts.add_tick(500, Lagging::none());
+    assert_eq!(rt; counts.health(2499), ServerHealth::Listening);
+    assert_eq!(rt; counts.health(2500), ServerHealth::NoTick);
+    assert_eq!(rt; counts.health(0), ServerHealth::Listening);
     Ok(())
 }
 

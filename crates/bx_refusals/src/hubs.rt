@@ -33,11 +33,9 @@ where
     R: Wait + RandomSource + AllocGlobal,
 {
     let mut text = String::new(alloc);
-    for is_awaited in [false, true] {
-        let config = config(if is_awaited { 1 } else { 2 })?;
-        let task = MockTask::new(rt).map_err(|_| Unlike::Memory)?;
-        let exchange = Exchange { task, is_awaited };
-        let lines = work_in_open_hub(rt, alloc, config, exchange)?;
+    for (shards, is_awaited) in [(2, false), (1, true)] {
+        let exchange = Exchange::new(rt, is_awaited)?;
+        let lines = work_in_open_hub(rt, alloc, config(shards)?, exchange)?;
         add_line(&mut text, lines.as_str())?;
     }
     Ok(text)
@@ -51,6 +49,28 @@ struct Exchange {
     is_awaited: bool,
 }
 
+impl Exchange {
+    fn new<R: RandomSource + AllocGlobal>(rt: &R, is_awaited: bool) -> Result<Exchange, Unlike> {
+        match MockTask::new(rt) {
+            Ok(task) => Ok(Exchange { task, is_awaited }),
+            Err(_) => Err(Unlike::Memory),
+        }
+    }
+
+    // Makes the exchange, and appends a line for each message, the tick and the answer.
+    fn exchange<L: HubKind, H: Wait + Drop, R: Wait>(
+        &self,
+        caller: &mut Caller<'_, L, H, R>,
+    ) -> Result<(), Unlike> {
+        let answer = if self.is_awaited {
+            caller.awaited_answer(&self.task)?
+        } else {
+            caller.learned_answer()?
+        };
+        caller.add_answer(answer)
+    }
+}
+
 impl<R: Wait> HubWork<&R> for Exchange {
     type Value = String;
 
@@ -60,12 +80,7 @@ impl<R: Wait> HubWork<&R> for Exchange {
         let (rt, alloc, hub) = (stage.rt, stage.alloc, &stage.hub);
         check(hub.start_record(rt, alloc).is_ok(), "no record")?;
         let mut caller = Caller::new(rt, alloc, hub);
-        let answer = if self.is_awaited {
-            caller.awaited_answer(&self.task)?
-        } else {
-            caller.learned_answer()?
-        };
-        caller.add_answer(answer)?;
+        self.exchange(&mut caller)?;
         check_record(rt, alloc, hub)?;
         Ok(caller.into_text())
     }

@@ -9,7 +9,7 @@ use bx_calls::texts::{HANDSHAKE, SUBSCRIBE_OTHER};
 use bx_entry::{AdmitFault, AllFirst, Entry, EntryKind, Slot};
 use bx_message::Message;
 use bx_registry::{Plan, Registry};
-use std::alloc::Global;
+use std::alloc::{AllocError, Global};
 
 // A publish of the first session to `/a/b`.
 const PUBLISH: &str =
@@ -67,7 +67,9 @@ fn request(
     body: &str,
 ) -> Result<String, Unlike> {
     let arrival = arrival(alloc, body)?;
-    let messages = arrival.read(alloc).map_err(|_| Unlike::Memory)?;
+    let Ok(messages) = arrival.read(alloc) else {
+        return Err(Unlike::Memory);
+    };
     let Plan {
         slots,
         elements,
@@ -90,18 +92,24 @@ fn tick(alloc: Global, registry: &mut Registry, moment: u64) -> Result<String, U
         ..
     } = planned(alloc, registry, moment, None)?;
     registry.commit(change, &elements);
-    let Some(
-        Entry {
-            kind: EntryKind::Tick(numbers),
-            ..
-        },
-    ) = batch.entries.as_slice().first()
-    else {
-        return Err(Unlike::Wrong("a tick has no entry"));
-    };
-    let mut text = format!(in alloc; "closed:")?;
-    for number in numbers.as_slice() {
-        text.push_str(format!(in alloc; " {number}")?.as_str())?;
+    match batch.entries.as_slice().first() {
+        Some(entry) => closed_by(alloc, entry),
+        None => Err(Unlike::Wrong("a tick has no entry")),
+    }
+}
+
+// Returns a line with the numbers of the sessions that `entry`, a tick, closes.
+fn closed_by(alloc: Global, entry: &Entry) -> Result<String, Unlike> {
+    match &entry.kind {
+        EntryKind::Tick(numbers) => Ok(line_of(alloc, numbers.as_slice())?),
+        _ => Err(Unlike::Wrong("a tick has another entry")),
+    }
+}
+
+fn line_of(alloc: Global, numbers: &[u64]) -> Result<String, AllocError> {
+    let mut text = String::from_str(alloc, "closed:")?;
+    for number in numbers {
+        write!(text, " {number}")?;
     }
     Ok(text)
 }

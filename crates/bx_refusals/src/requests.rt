@@ -1,6 +1,6 @@
 //! The configuration of the runs, and the texts of responses and of lines.
 use crate::unlike::Unlike;
-use bx_advice::Config;
+use bx_advice::{Config, Limit};
 use bx_calls::config_of;
 use bx_message::{Answer, Item, Reply, body_text, reply_text};
 use std::alloc::Global;
@@ -11,9 +11,10 @@ use std::alloc::Global;
 ///
 /// `Wrong` if `shards` is not from 1 to 64.
 pub fn config(shards: usize) -> Result<Config, Unlike> {
-    let mut config = config_of(shards).ok_or(Unlike::Wrong("no configuration"))?;
-    config.limits.sessions = 4;
-    Ok(config)
+    let config = config_of(shards).ok_or(Unlike::Wrong("no configuration"))?;
+    config
+        .with_maximum(Limit::Sessions, 4)
+        .ok_or(Unlike::Wrong("no configuration"))
 }
 
 /// Returns the JSON array of an answer: its events, then its reply.
@@ -49,7 +50,10 @@ pub fn reply(alloc: Global, reply: &Reply) -> Result<String, Unlike> {
 ///
 /// `Wrong` if `text` is not UTF-8.
 pub fn string(text: Vec<u8>) -> Result<String, Unlike> {
-    String::from_utf8(text).map_err(|_| Unlike::Wrong("not a text"))
+    match String::from_utf8(text) {
+        Ok(text) => Ok(text),
+        Err(_) => Err(Unlike::Wrong("not a text")),
+    }
 }
 
 /// Appends `line` to `text`, after a newline unless `text` is empty.

@@ -19,7 +19,7 @@ type Requests = &'static [(u64, &'static str)];
 
 // A run: the requests `first`, a redistribution of the sessions to `shards` shards unless it is
 // `None`, and the requests `then`. If `ride` is set, replies carry waiting events.
-#[derive(Clone, Copy, Debug)]
+#[derive(Clone, Copy)]
 struct Worked {
     first: Requests,
     shards: Option<usize>,
@@ -162,23 +162,46 @@ const WORKED: [Worked; 6] = [
 pub fn run<R: Threads + Sync>(rt: &R, alloc: Global) -> Result<String, Unlike> {
     let mut text = String::new(alloc);
     for worked in WORKED {
-        let mut dealer = Dealer {
-            rt,
-            alloc,
-            outs: Vec::new(alloc),
-        };
-        let round = dealer.round_of(worked)?;
-        add_line(&mut text, dealer.written()?.as_str())?;
-        for number in round.held(alloc)? {
-            let line = format!(in alloc; "{} held", number.saturating_add(1))?;
-            add_line(&mut text, line.as_str())?;
-        }
+        make(rt, alloc, worked, &mut text)?;
     }
     Ok(text)
 }
 
+// Makes the run `worked`, and appends its lines.
+fn make<R: Threads + Sync>(
+    rt: &R,
+    alloc: Global,
+    worked: Worked,
+    text: &mut String,
+) -> Result<(), Unlike> {
+    let outs = Vec::new(alloc);
+    let mut dealer = Dealer { rt, alloc, outs };
+    let held = dealer.held_after(worked)?;
+    add_line(text, dealer.written()?.as_str())?;
+    add_held(alloc, held.as_slice(), text)
+}
+
+// Appends a line for each connect that is held. `held`: the numbers of their requests, from 0.
+fn add_held(alloc: Global, held: &[usize], text: &mut String) -> Result<(), Unlike> {
+    for number in held {
+        let line = format!(in alloc; "{} held", number.saturating_add(1))?;
+        add_line(text, line.as_str())?;
+    }
+    Ok(())
+}
+
 fn placing(alloc: Global) -> Result<Arc<ByRemainder>, Unlike> {
     Ok(Arc::new(alloc, ByRemainder)?)
+}
+
+// Creates a round with two shards. `ride`: whether replies carry waiting events.
+fn new_round(alloc: Global, ride: bool) -> Result<Round<ByRemainder>, Unlike> {
+    let config = config(2)?.with(Options {
+        ride,
+        anonymous: false,
+    });
+    let placing = placing(alloc)?;
+    Ok(Round::new(alloc, config, placing, WorkerCount::one())?)
 }
 
 fn inputs(alloc: Global, requests: Requests) -> Result<Vec<Input>, Unlike> {
@@ -200,40 +223,49 @@ struct Dealer<'a, R> {
 }
 
 impl<R: Threads + Sync> Dealer<'_, R> {
-    // Returns a round that starts with two shards, after all of `worked`.
-    fn round_of(&mut self, worked: Worked) -> Result<Round<ByRemainder>, Unlike> {
-        let config = config(2)?.with(Options {
-            ride: worked.ride,
-            anonymous: false,
-        });
-        let placing = placing(self.alloc)?;
-        let mut round = Round::new(self.alloc, config, placing, WorkerCount::one())?;
+    // Makes the run `worked` with a new round, and returns the numbers of the requests whose
+    // connects are then held.
+    fn held_after(&mut self, worked: Worked) -> Result<Vec<usize>, Unlike> {
+        let mut round = new_round(self.alloc, worked.ride)?;
         self.deal(&mut round, worked.first)?;
-        if let Some(shards) = worked.shards {
-            round = self.redistributed(round, shards)?;
-        }
+        let mut round = self.redistributed(round, worked.shards)?;
         self.deal(&mut round, worked.then)?;
-        Ok(round)
+        Ok(round.held(self.alloc)?)
     }
 
-    // Returns `round` with its sessions redistributed to `shards` shards. On an error, retries once
-    // with the round that the error returns.
+    // Returns `round` with its sessions redistributed to `shards` shards, unless this is `None`. On
+    // an error, retries once with the round that the error returns.
     fn redistributed(
         &self,
         round: Round<ByRemainder>,
-        shards: usize,
+        shards: Option<usize>,
     ) -> Result<Round<ByRemainder>, Unlike> {
-        let (rt, alloc) = (self.rt, self.alloc);
+        let Some(shards) = shards else {
+            return Ok(round);
+        };
         let Some(shards) = ShardCount::new(shards) else {
             return Err(Unlike::Wrong("too many shards"));
         };
-        let (once, again) = (placing(alloc)?, placing(alloc)?);
-        match round.reshard(rt, alloc, shards, once) {
+        match self.redistributed_once(round, shards)? {
             Ok(round) => Ok(round),
-            Err((back, _)) => match back.reshard(rt, alloc, shards, again) {
+            Err(back) => match self.redistributed_once(back, shards)? {
                 Ok(round) => Ok(round),
                 Err(_) => Err(Unlike::Wrong("not redistributed")),
             },
+        }
+    }
+
+    // Returns `round` with its sessions redistributed to `shards` shards, or as it was if memory
+    // ran out for that.
+    fn redistributed_once(
+        &self,
+        round: Round<ByRemainder>,
+        shards: ShardCount,
+    ) -> Result<Result<Round<ByRemainder>, Round<ByRemainder>>, Unlike> {
+        let placing = placing(self.alloc)?;
+        match round.reshard(self.rt, self.alloc, shards, placing) {
+            Ok(round) => Ok(Ok(round)),
+            Err((back, _)) => Ok(Err(back)),
         }
     }
 

@@ -16,7 +16,7 @@ const MOST_ENTRIES: u64 = 10_000;
 const MOST_EVENTS: usize = 1_024;
 
 // What an entry does. Sessions are given by their numbers.
-#[derive(Clone, Copy, Debug)]
+#[derive(Clone, Copy)]
 enum Deed {
     // Opens a session, which acknowledges batches if the flag is set.
     Open(u64, bool),
@@ -103,16 +103,22 @@ const WORKED: [Worked; 4] = [
 /// second attempt, or if the first attempt changed the place of the shard.
 pub fn run(alloc: Global) -> Result<String, Unlike> {
     let mut text = String::new(alloc);
-    for (first, is_filled, then) in WORKED {
-        let placing = Arc::new(alloc, ByRemainder)?;
-        let mut shard = Shard::new(alloc, 0, config(1)?, placing);
-        apply_all(alloc, &mut shard, first, &mut text)?;
-        if is_filled {
-            fill(alloc, &mut shard)?;
-        }
-        apply_all(alloc, &mut shard, then, &mut text)?;
+    for worked in WORKED {
+        make(alloc, worked, &mut text)?;
     }
     Ok(text)
+}
+
+// Applies the entries of `worked` to a new shard, and appends a line for each answered connect.
+fn make(alloc: Global, worked: Worked, text: &mut String) -> Result<(), Unlike> {
+    let (first, is_filled, then) = worked;
+    let placing = Arc::new(alloc, ByRemainder)?;
+    let mut shard = Shard::new(alloc, 0, config(1)?, placing);
+    apply_all(alloc, &mut shard, first, text)?;
+    if is_filled {
+        fill(alloc, &mut shard)?;
+    }
+    apply_all(alloc, &mut shard, then, text)
 }
 
 // Applies the entries of `deeds`. When the last connect so far is answered, appends the line of the
@@ -170,9 +176,10 @@ fn apply(alloc: Global, shard: &mut Shard<ByRemainder>, kind: EntryKind) -> Resu
     if shard.place() != place {
         return Err(Unlike::Wrong("a refused entry moves its shard"));
     }
-    shard
-        .apply(alloc, &entry, &mut wakers)
-        .map_err(|_| Unlike::Wrong("not applied"))
+    match shard.apply(alloc, &entry, &mut wakers) {
+        Ok(()) => Ok(()),
+        Err(_) => Err(Unlike::Wrong("not applied")),
+    }
 }
 
 // Returns the text of `answer`. For four or more events, the text has their count and the reply.
@@ -208,8 +215,11 @@ fn kind(alloc: Global, deed: Deed) -> Result<EntryKind, Unlike> {
 }
 
 fn patterns(alloc: Global, text: &str) -> Result<Sequence<Pattern>, Unlike> {
+    let Ok(pattern) = Pattern::read(alloc, text) else {
+        return Err(Unlike::Memory);
+    };
     let mut patterns = Sequence::new(alloc);
-    patterns.push(Pattern::read(alloc, text).map_err(|_| Unlike::Memory)?)?;
+    patterns.push(pattern)?;
     Ok(patterns)
 }
 

@@ -13,7 +13,7 @@ use std::marker::Brand;
 use std::sync::Wait;
 
 // A change of the window.
-#[derive(Clone, Copy, Debug)]
+#[derive(Clone, Copy)]
 enum Deed {
     // Publishes a batch of this number of ticks.
     Publish(u64),

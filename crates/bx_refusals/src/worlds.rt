@@ -60,7 +60,10 @@ fn admit(alloc: Global, world: &mut World<ByRemainder>, body: &str) -> Result<Ad
         Err(AdmitFault::Memory) => world.admit(alloc, &arrival),
         admitted => admitted,
     };
-    admitted.map_err(|_| Unlike::Wrong("not admitted"))
+    match admitted {
+        Ok(admitted) => Ok(admitted),
+        Err(_) => Err(Unlike::Wrong("not admitted")),
+    }
 }
 
 // Advances the shards. If memory runs out for one of them, checks that exactly one shard is

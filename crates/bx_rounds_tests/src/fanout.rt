@@ -38,10 +38,14 @@ const PUBLISH: &str =
 // The shards in which `ByTable` places the sessions in turn, modulo their number.
 const TABLE: [u8; 5] = [3, 62, 17, 40, 9];
 
+fn table(alloc: Global) -> Result<Arc<ByTable>, Fail> {
+    Ok(Arc::new(alloc, ByTable::new(alloc, &TABLE)?)?)
+}
+
 // Creates a round of `shards` shards and `workers` workers.
 fn new_round(alloc: Global, shards: usize, workers: usize) -> Result<Round<ByTable>, Fail> {
     let config = Config::new(shards, 30_000, 0, 10_000).ok_or("no configuration")?;
-    let placing = Arc::new(alloc, ByTable::new(alloc, &TABLE)?)?;
+    let placing = table(alloc)?;
     let workers = WorkerCount::new(workers).ok_or("no such number of workers")?;
     Ok(Round::new(alloc, config, placing, workers)?)
 }
@@ -96,30 +100,54 @@ fn run_inputs<R: Threads + Sync>(
     Ok(outs.len())
 }
 
-// Redistributes the sessions of `round` to `shards` shards.
+// Redistributes the sessions of `round`, which has `before` shards, to `shards` shards.
 fn redistributed<R: Threads + Sync>(
     rt: &R,
     alloc: Global,
     round: Round<ByTable>,
+    before: usize,
     shards: usize,
 ) -> Result<Round<ByTable>, Fail> {
-    let placing = Arc::new(alloc, ByTable::new(alloc, &TABLE)?)?;
-    let shards = ShardCount::new(shards).ok_or("no such number of shards")?;
+    if shards == before {
+        return Ok(round);
+    }
+    let placing = table(alloc)?;
+    match ShardCount::new(shards) {
+        Some(shards) => resharded(rt, alloc, round, shards, placing),
+        None => Err(Fail::from("no such number of shards")),
+    }
+}
+
+// Prover: a function of its own, because a call of `reshard` with other values is proved slowly.
+fn resharded<R: Threads + Sync>(
+    rt: &R,
+    alloc: Global,
+    round: Round<ByTable>,
+    shards: ShardCount,
+    placing: Arc<ByTable>,
+) -> Result<Round<ByTable>, Fail> {
     match round.reshard(rt, alloc, shards, placing) {
         Ok(round) => Ok(round),
         Err(_) => Err(Fail::from("no memory")),
     }
 }
 
-// Opens the crowd in `round`, which is new, and runs the inputs with few deliveries. Only worker 0
-// must take part in that run.
-fn hold<R: Threads + Sync + Abort>(
+// Opens the crowd in `round`, which is new.
+fn open_crowd<R: Threads + Sync + Abort>(
     rt: &R,
     alloc: Global,
     round: &mut Round<ByTable>,
 ) -> Result<(), Fail> {
     let crowd = vec![in alloc; HANDSHAKE; CROWD]?;
-    run(rt, alloc, &Meeting::none(), round, &crowd, CROWD)?;
+    run(rt, alloc, &Meeting::none(), round, &crowd, CROWD)
+}
+
+// Runs the inputs with few deliveries, in which only worker 0 must take part.
+fn hold<R: Threads + Sync + Abort>(
+    rt: &R,
+    alloc: Global,
+    round: &mut Round<ByTable>,
+) -> Result<(), Fail> {
     let one = Meeting::of(0b1);
     run(rt, alloc, &one, round, &FEW, 3)?;
     same(rt, one.finished(), Some(0b1), "one worker");
@@ -128,7 +156,7 @@ fn hold<R: Threads + Sync + Abort>(
 
 // Runs the publish, in which exactly the workers in `team` must take part, and checks that it
 // answers the connect. Bit k of `team` is set for worker k.
-fn check_team<R: Threads + Sync + Abort>(
+fn publish<R: Threads + Sync + Abort>(
     rt: &R,
     alloc: Global,
     round: &mut Round<ByTable>,
@@ -140,15 +168,29 @@ fn check_team<R: Threads + Sync + Abort>(
     Ok(())
 }
 
+// Holds a connect in a new round, redistributes its sessions from `shards` to `more` shards, and
+// checks that exactly the workers in `team` take part in the run of the publish.
+fn check_team<R: Threads + Sync + Abort>(
+    rt: &R,
+    alloc: Global,
+    (shards, workers, more): (usize, usize, usize),
+    gate: &Meeting,
+    team: u16,
+) -> Result<(), Fail> {
+    let mut round = new_round(alloc, shards, workers)?;
+    open_crowd(rt, alloc, &mut round)?;
+    hold(rt, alloc, &mut round)?;
+    let mut round = redistributed(rt, alloc, round, shards, more)?;
+    publish(rt, alloc, &mut round, gate, team)
+}
+
 // Checks that the workers of a run work concurrently. If one thread did the work of both workers in
 // turn, the held one would give up.
 #[test]
 fn workers_run_at_the_same_time(rt: HostRuntime) -> Result<(), Fail> {
     let alloc = rt.alloc();
     for held in [0, 1] {
-        let mut round = new_round(alloc, 2, 2)?;
-        hold(&rt, alloc, &mut round)?;
-        check_team(&rt, alloc, &mut round, &Meeting::holding(held), 0b11)?;
+        check_team(&rt, alloc, (2, 2, 2), &Meeting::holding(held), 0b11)?;
     }
     Ok(())
 }
@@ -161,12 +203,7 @@ fn workers_run_at_the_same_time(rt: HostRuntime) -> Result<(), Fail> {
 fn as_many_threads_run_as_workers(rt: HostRuntime) -> Result<(), Fail> {
     let alloc = rt.alloc();
     for (shards, team, more) in [(64, 0xffff, 64), (4, 0b1111, 4), (4, 0xffff, 64)] {
-        let mut round = new_round(alloc, shards, 16)?;
-        hold(&rt, alloc, &mut round)?;
-        if more != shards {
-            round = redistributed(&rt, alloc, round, more)?;
-        }
-        check_team(&rt, alloc, &mut round, &Meeting::of(team), team)?;
+        check_team(&rt, alloc, (shards, 16, more), &Meeting::of(team), team)?;
     }
     Ok(())
 }

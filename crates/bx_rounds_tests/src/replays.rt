@@ -4,10 +4,12 @@ use bx_advice::{Config, WorkerCount};
 use bx_entry::ByRemainder;
 use bx_replay::replay;
 use bx_script::{Dialect, Lines, Output, ScriptFault};
+use std::alloc::Global;
 use std::io;
 use std::io::{ErrorKind, Write};
 use std::sync::Arc;
 use std::test::Fail;
+use std::thread::Threads;
 
 // A writer that cannot be flushed.
 #[derive(Drop)]
@@ -41,27 +43,28 @@ const OUTPUT: &str =
 4 held
 "#;
 
+// Replays the script, and returns the replay's result.
+fn replayed<R: Threads + Sync>(
+    rt: &R,
+    alloc: Global,
+    writer: &mut Writer,
+) -> Result<Result<(), ScriptFault>, Fail> {
+    let config = Config::new(3, 30_000, 0, 10_000).ok_or("no configuration")?;
+    let workers = WorkerCount::new(2).ok_or("no such number of workers")?;
+    let placing = Arc::new(alloc, ByRemainder)?;
+    let mut lines = Lines::new(alloc, Dialect::Script, SCRIPT.as_bytes());
+    let mut output = Output::new(writer);
+    Ok(replay(rt, alloc, config, placing, workers, &mut lines, &mut output))
+}
+
 // Checks that a failed flush is a write fault, after all output is written.
 #[test]
 fn a_failed_flush_is_a_write_fault(rt: HostRuntime) -> Result<(), Fail> {
     let alloc = rt.alloc();
-    let config = Config::new(3, 30_000, 0, 10_000).ok_or("no configuration")?;
-    let workers = WorkerCount::new(2).ok_or("no such number of workers")?;
-    let placing = Arc::new(alloc, ByRemainder)?;
     let mut writer = Writer {
         written: Vec::new(alloc),
     };
-    let mut lines = Lines::new(alloc, Dialect::Script, SCRIPT.as_bytes());
-    let mut output = Output::new(&mut writer);
-    let ended = replay(
-        &rt,
-        alloc,
-        config,
-        placing,
-        workers,
-        &mut lines,
-        &mut output,
-    );
+    let ended = replayed(&rt, alloc, &mut writer)?;
     same(&rt, ended, Err(ScriptFault::Write), "a failed flush");
     same(&rt, writer.written.as_slice(), OUTPUT.as_bytes(), "all");
     Ok(())

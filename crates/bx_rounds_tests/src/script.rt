@@ -1,5 +1,6 @@
 //! Tests of reading the lines of a script.
 use crate::same::same;
+use bx_cut::Bodies;
 use bx_entry::Input;
 use bx_script::{Dialect, Line, Lines, ScriptFault};
 use std::alloc::{AllocError, Global};
@@ -7,37 +8,43 @@ use std::test::Fail;
 
 // Appends a description of `line` to `text`: its kind, and its status, number or request.
 fn push_told(alloc: Global, line: &Line, text: &mut String) -> Result<(), AllocError> {
-    let told = match line {
-        Line::Bad => String::from_str(alloc, "bad")?,
-        Line::Rejected { status } => format!(in alloc; "turned {}", status.code())?,
-        Line::Resharded { shards } => format!(in alloc; "shards {}", shards.get())?,
-        Line::Announced { nonce } => format!(in alloc; "nonce {nonce}")?,
-        Line::Noted => String::from_str(alloc, "note")?,
+    match line {
+        Line::Bad => text.push_str("bad"),
+        Line::Rejected { status } => write!(text, "turned {}", status.code()),
+        Line::Resharded { shards } => write!(text, "shards {}", shards.get()),
+        Line::Announced { nonce } => write!(text, "nonce {nonce}"),
+        Line::Noted => text.push_str("note"),
         Line::Accepted { callback, input } => {
             let name = match callback {
                 Some(name) => name.as_str(),
                 None => "-",
             };
-            told_input(alloc, name, input)?
+            push_input(alloc, name, input, text)
         }
-    };
-    text.push_str(told.as_str())?;
-    text.push(';')
+    }
 }
 
-fn told_input(alloc: Global, name: &str, input: &Input) -> Result<String, AllocError> {
-    let arrival = match input {
-        Input::Tick(moment) => return format!(in alloc; "tick {moment}"),
-        Input::Post(arrival) => arrival,
-    };
-    let mut text = format!(in alloc; "post {} {name}", arrival.moment)?;
-    for i in 0..arrival.bodies.len() {
-        let body = String::from_utf8_lossy(alloc, arrival.bodies.get(i))?;
-        text.push_str(" |")?;
-        text.push_str(body.as_str())?;
-        text.push('|')?;
+fn push_input(
+    alloc: Global,
+    name: &str,
+    input: &Input,
+    text: &mut String,
+) -> Result<(), AllocError> {
+    match input {
+        Input::Tick(moment) => write!(text, "tick {moment}"),
+        Input::Post(arrival) => {
+            write!(text, "post {} {name}", arrival.moment)?;
+            push_bodies(alloc, &arrival.bodies, text)
+        }
     }
-    Ok(text)
+}
+
+fn push_bodies(alloc: Global, bodies: &Bodies, text: &mut String) -> Result<(), AllocError> {
+    for i in 0..bodies.len() {
+        let body = String::from_utf8_lossy(alloc, bodies.get(i))?;
+        write!(text, " |{body}|")?;
+    }
+    Ok(())
 }
 
 // Returns the descriptions of the lines of `SCRIPT`, each followed by a semicolon. Fails with
@@ -47,7 +54,10 @@ fn all_told(alloc: Global, dialect: Dialect) -> Result<String, ScriptFault> {
     let mut text = String::new(alloc);
     for _ in 0..100 {
         match lines.next_line(alloc)? {
-            Some(line) => push_told(alloc, &line, &mut text)?,
+            Some(line) => {
+                push_told(alloc, &line, &mut text)?;
+                text.push(';')?;
+            }
             None => return Ok(text),
         }
     }

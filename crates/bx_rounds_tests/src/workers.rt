@@ -27,10 +27,18 @@ fn brought_up<R: Threads + Sync, G: Gate + Sync, P: Placing + Drop + Send + Sync
 ) -> Result<usize, Fail> {
     let config = Config::new(count, 30_000, 0, 10_000).ok_or("no configuration")?;
     let workers = WorkerCount::new(workers).ok_or("no such number of workers")?;
-    let arrival = request(alloc, HANDSHAKE)?;
     let mut world = World::new(alloc, config, placing)?;
-    world.admit(alloc, &arrival).map_err(|_| "not admitted")?;
+    open(alloc, &mut world)?;
     Ok(world.bring_up(rt, alloc, gate, workers))
+}
+
+// Admits a handshake.
+fn open<P: Placing + Drop>(alloc: Global, world: &mut World<P>) -> Result<(), Fail> {
+    let arrival = request(alloc, HANDSHAKE)?;
+    match world.admit(alloc, &arrival) {
+        Ok(_) => Ok(()),
+        Err(_) => Err(Fail::from("not admitted")),
+    }
 }
 
 // A gate that counts the calls of `before` and of `after`, with one decimal digit for each worker.
@@ -79,13 +87,24 @@ impl Gate for Counting {
 fn each_worker_passes_the_gate_once(rt: HostRuntime) -> Result<(), Fail> {
     let alloc = rt.alloc();
     for (workers, count, passed) in [(1, 5, 1), (2, 5, 11), (3, 5, 111), (2, 1, 1), (4, 6, 111)] {
-        let gate = Counting::new();
-        let placing = Arc::new(alloc, ByRemainder)?;
-        let behind = brought_up(&rt, alloc, placing, &gate, (workers, count))?;
-        let found = (behind, gate.counts());
-        same(&rt, found, (0, (passed, passed)), (workers, count));
+        let (behind, counts) = passes(&rt, alloc, (workers, count))?;
+        same(&rt, behind, 0, (workers, count));
+        same(&rt, counts, (passed, passed), (workers, count));
     }
     Ok(())
+}
+
+// Brings up `count` shards with `workers` workers, and returns how many do not reach the end, and
+// how often each worker passed the gate.
+fn passes<R: Threads + Sync>(
+    rt: &R,
+    alloc: Global,
+    (workers, count): (usize, usize),
+) -> Result<(usize, (u64, u64)), Fail> {
+    let gate = Counting::new();
+    let placing = Arc::new(alloc, ByRemainder)?;
+    let behind = brought_up(rt, alloc, placing, &gate, (workers, count))?;
+    Ok((behind, gate.counts()))
 }
 
 // A placing of all sessions in the first shard. It counts its calls: one each time that a shard

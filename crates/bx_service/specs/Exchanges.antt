@@ -1,5 +1,6 @@
 -- The responses that an exchange may give, by its state.
-use Rattle.std.specs.Prelude.{◌≡◌, ◌⊎◌, ℕ, List, Option, Some, None, option_map, string_bytes, Vec, Result, Ok, Err}
+use Rattle.std.specs.Prelude.{◌≡◌, ◌⊎◌, ℕ, List, Option, Some, None, option_map, string_bytes, Vec, Result, Ok, Err, IfOk, MatchOption}
+use Rattle.std.specs.Arc.{arc_value}
 use Rattle.std.specs.Global.{Global}
 use Rattle.futures.specs.Runs.{Runs}
 use Rattle.http.specs.declared.response.Response.{Response}
@@ -12,7 +13,7 @@ use Rattle.bx_service.specs.declared.collect.CollectError.{CollectError}
 use Rattle.bx_transport.specs.Transports.{post_taken, get_taken}
 use Rattle.bx_transport.specs.declared.error.TransportError.{TransportError}
 use Rattle.bx_hub.specs.declared.fault.PostFault.{PostFault}
-use Rattle.bx_service.specs.declared.{backend.Answered.Answered, backend.Unanswered.Unanswered, exchange.State.State}
+use Rattle.bx_service.specs.declared.{backend.Answered.Answered, backend.Unanswered.Unanswered, exchange.Exchange.Exchange, exchange.State.State, service.ServiceFault.ServiceFault}
 use Rattle.bx_service.specs.declared.backend.Unanswered.TheVariants as unanswered
 use Rattle.bx_service.specs.declared.exchange.State.TheVariants.{Collecting, Asked, Held, Declined, Refused, Done}
 use Rattle.bx_service.specs.Responses.{IsAnswer, IsRefusal}
@@ -122,3 +123,25 @@ module _ {W : Type 0} (answers : List (List ℕ) → Gathered W → Type 0) (rej
     MayAnswer (Declined fault witness) kept sent = ForDeclined fault witness kept sent
     MayAnswer (Refused error) kept sent = IsRefusal error sent
     MayAnswer (Done given) kept sent = ⊥
+
+module _ {S I W B D E O : Type 0} (answers : S → List (List ℕ) → Gathered W → Type 0) (rejects : S → List (List ℕ) → PostFault → Option W → Type 0)
+    (gives : I → Gathered W → Type 0) (unread : D → List ℕ) (yields : B → Runs (Result (Frame D) E)) where
+  -- `sent` may be the response of the exchange, if it then keeps `kept`. Without a backend, the
+  -- exchange gives no response.
+  abbrev pub AnswersBy : Exchange S I B W O → Option W → Sent → Type 0
+  AnswersBy exchange kept sent =
+      MatchOption exchange.backend ⊥ (λ backend. MayAnswer (answers (arc_value backend)) (rejects (arc_value backend)) gives unread yields exchange.state kept sent)
+
+  -- `given` may be the output of the exchange: an error, or a response that it may give with some
+  -- witness.
+  abbrev pub GivesBy : Exchange S I B W O → Result Sent ServiceFault → Type 0
+  GivesBy exchange given = IfOk given (λ sent. MatchOption exchange.backend ⊥
+      (λ backend. (kept : Option W) × MayAnswer (answers (arc_value backend)) (rejects (arc_value backend)) gives unread yields exchange.state kept sent))
+
+  -- Each response that `new` may give, `old` may give too, with the same witness.
+  abbrev pub AnswersNoMore : Exchange S I B W O → Exchange S I B W O → Type 0
+  AnswersNoMore old new = (kept : Option W) (sent : Sent) → AnswersBy new kept sent → AnswersBy old kept sent
+
+  -- Each output that `new` may have, `old` may have too.
+  abbrev pub GivesNoMore : Exchange S I B W O → Exchange S I B W O → Type 0
+  GivesNoMore old new = (given : Result Sent ServiceFault) → GivesBy new given → GivesBy old given

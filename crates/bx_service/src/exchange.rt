@@ -1,5 +1,4 @@
-ghost use Rattle.std.specs.Prelude.{◌≡◌, [], Err, IfOk, None, MatchOption, Option, option_copied, option_map, string_bytes, unwrap_or, Result};
-ghost use Rattle.std.specs.Arc.{arc_value};
+ghost use Rattle.std.specs.Prelude.{◌≡◌, [], Err, IfOk, None, Option, option_copied, option_map, string_bytes, unwrap_or};
 ghost use Rattle.futures.specs.Poll.{IfReady, OnPending};
 ghost use Rattle.futures.specs.declared.task.Poll.TheVariants.{Ready};
 ghost use Rattle.futures.specs.Task.{IsArmed, Keeps};
@@ -11,9 +10,8 @@ ghost use Rattle.bx_service.specs.declared.exchange.State.TheVariants.{Refused};
 ghost use Rattle.bx_service.specs.declared.error.RequestError.TheVariants.{Unreadable};
 ghost use Rattle.bx_transport.specs.declared.error.TransportError.TheVariants.{TooLarge};
 ghost use Rattle.bx_service.specs.Responses.{IsRefusal};
-ghost use Rattle.bx_service.specs.declared.service.ServiceFault.{ServiceFault};
 ghost use Rattle.bx_service.specs.declared.service.ServiceFault.TheVariants.{Memory};
-ghost use Rattle.bx_service.specs.Exchanges.{ForAsked, ForCollected, ForDocuments, ForItems, MayAnswer, Sent, kept_in};
+ghost use Rattle.bx_service.specs.Exchanges.{AnswersBy, AnswersNoMore, ForAsked, ForCollected, ForDocuments, ForItems, GivesBy, GivesNoMore, MayAnswer, Sent, kept_in};
 
 use crate::backend::{Answered, Backend, Unanswered};
 use crate::collect::{Collect, CollectError};
@@ -339,26 +337,19 @@ where
 
     ghost can_poll = { λ e. CanPoll I.can_poll B.can_poll e.state };
 
-    // Ghost: a response is one that the state allows, with some witness. The clause `shown` of
+    // Ghost: a response is one that the exchange may give, with some witness. The clause `shown` of
     // `poll` names the witness.
-    ghost gives = { λ e given. IfOk given (λ sent. MatchOption e.backend ⊥
-        (λ backend. (kept : Option S.Witness) × MayAnswer (S.answers (arc_value backend)) (S.rejects (arc_value backend)) I.gives D.unread B.yields e.state kept sent)) };
+    ghost gives = { λ e given. GivesBy S.answers S.rejects I.gives D.unread B.yields e given };
 
     // Drops the backend when the response is ready. A later poll posts no messages, and reports
     // that memory ran out.
     fn poll(&mut self, cx: &mut Context<'_>) -> Poll<Self::Output>
         requires { CanPoll I.can_poll B.can_poll self.old.state }
-        ensures shown { IfReady result (λ given. IfOk given (λ sent. MatchOption self.old.backend ⊥
-            (λ backend. MayAnswer (S.answers (arc_value backend)) (S.rejects (arc_value backend)) I.gives D.unread B.yields self.old.state (kept_in self.new.state) sent))) }
-        ensures carries { OnPending result ((kept : Option S.Witness) (sent : Sent)
-            → MatchOption self.new.backend ⊥ (λ backend. MayAnswer (S.answers (arc_value backend)) (S.rejects (arc_value backend)) I.gives D.unread B.yields self.new.state kept sent)
-            → MatchOption self.old.backend ⊥ (λ backend. MayAnswer (S.answers (arc_value backend)) (S.rejects (arc_value backend)) I.gives D.unread B.yields self.old.state kept sent)) }
-        ensures value { IfReady result (λ given. IfOk given (λ sent. MatchOption self.old.backend ⊥
-            (λ backend. (kept : Option S.Witness) × MayAnswer (S.answers (arc_value backend)) (S.rejects (arc_value backend)) I.gives D.unread B.yields self.old.state kept sent))) }
+        ensures shown { IfReady result (λ given. IfOk given (AnswersBy S.answers S.rejects I.gives D.unread B.yields self.old (kept_in self.new.state))) }
+        ensures carries { OnPending result (AnswersNoMore S.answers S.rejects I.gives D.unread B.yields self.old self.new) }
+        ensures value { IfReady result (GivesBy S.answers S.rejects I.gives D.unread B.yields self.old) }
         ensures again { OnPending result (CanPoll I.can_poll B.can_poll self.new.state) }
-        ensures same { OnPending result ((given : Result Sent ServiceFault)
-            → IfOk given (λ sent. MatchOption self.new.backend ⊥ (λ backend. (kept : Option S.Witness) × MayAnswer (S.answers (arc_value backend)) (S.rejects (arc_value backend)) I.gives D.unread B.yields self.new.state kept sent))
-            → IfOk given (λ sent. MatchOption self.old.backend ⊥ (λ backend. (kept : Option S.Witness) × MayAnswer (S.answers (arc_value backend)) (S.rejects (arc_value backend)) I.gives D.unread B.yields self.old.state kept sent))) }
+        ensures same { OnPending result (GivesNoMore S.answers S.rejects I.gives D.unread B.yields self.old self.new) }
         ensures registered { OnPending result (IsArmed cx.new) }
         ensures kept { Keeps cx.old cx.new }
         ensures waits { OnPending result (self.new.backend ≡ self.old.backend) }

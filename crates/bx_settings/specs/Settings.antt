@@ -1,5 +1,5 @@
 -- The settings that positional arguments of the daemon give.
-use Rattle.std.specs.Prelude.{◌≡◌, ℕ, Bool, true, false, List, [], ◌∷◌, codes, Option, Some, None, option_map}
+use Rattle.std.specs.Prelude.{◌≡◌, ◌-◌, ◌^◌, ℕ, Bool, true, false, List, [], ◌∷◌, codes, Option, Some, None, option_map}
 use Rattle.std.specs.Net.Grammar.{IsSocketText}
 use Rattle.std.specs.declared.net.socket_addr.SocketAddr.{SocketAddr}
 use Rattle.bx_advice.specs.Options.{options_in}
@@ -29,6 +29,7 @@ pub record PlainSettings : Type 0 where
   pub metrics : Option (List ℕ)
   pub record_file : Option (List ℕ)
   pub record_answers : Bool
+  pub record_bytes : ℕ
   pub until_eof : Bool
   pub log : LogFormat
   pub log_level : LogLevel
@@ -49,6 +50,7 @@ plain settings = record {
   metrics = option_map (λ address. address.now) settings.metrics;
   record_file = option_map (λ name. name.now) settings.record_file;
   record_answers = settings.record_answers;
+  record_bytes = settings.record_bytes;
   until_eof = settings.until_eof;
   log = settings.log;
   log_level = settings.log_level;
@@ -86,7 +88,7 @@ settings_in (listen ∷ shards ∷ timeout ∷ interval ∷ max_interval ∷ see
   c ← config_in shards timeout interval max_interval o.0 o.1
   bytes ← seed_in seed
   n ← number_of connections
-  Some (record { listen = listen; read_only_listen = None; readers_publish = []; config = c; body = BODY_LIMIT; callback_polling = true; seed = FromArguments bytes; connections = n; metrics = None; record_file = None; record_answers = false; until_eof = false; log = Text; log_level = Info })
+  Some (record { listen = listen; read_only_listen = None; readers_publish = []; config = c; body = BODY_LIMIT; callback_polling = true; seed = FromArguments bytes; connections = n; metrics = None; record_file = None; record_answers = false; record_bytes = 2 ^ 64 - 1; until_eof = false; log = Text; log_level = Info })
 settings_in args = None
 
 -- A text is an IP address and a port, such as `127.0.0.1:8087` or `[::1]:8087`.

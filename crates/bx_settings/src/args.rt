@@ -79,6 +79,7 @@ fn settings_in(alloc: Global, args: &[String]) -> Option<Settings<'_>>
         metrics: None,
         record_file: None,
         record_answers: false,
+        record_bytes: usize::MAX,
         until_eof: false,
         log: LogFormat::Text,
         log_level: LogLevel::Info,

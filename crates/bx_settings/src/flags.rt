@@ -19,6 +19,9 @@ const TIME: &str = "a time such as 500ms or 30s, up to 4294967295ms";
 
 const PATTERN: &str = "a pattern of channels such as /chat/*";
 
+// The greatest size of a record that can be set, in bytes: 2^44, which no disk has.
+const MAX_RECORD: usize = 17_592_186_044_416;
+
 // The times that need a unit are below this one, in milliseconds: the user may have meant seconds.
 const SECOND: u32 = 1000;
 
@@ -50,6 +53,14 @@ pub fn read_flags<'a>(
     let log = read_log_format(alloc, &mut command, &matches)?;
     let log_level = read_log_level(alloc, &mut command, &matches)?;
     let connections = read_connections(alloc, &mut command, &matches)?;
+    let record_bytes = read_number(
+        alloc,
+        &mut command,
+        &matches,
+        "record-bytes",
+        MAX_RECORD,
+        usize::MAX,
+    )?;
     Ok(Settings {
         listen: listen.unwrap_or(""),
         read_only_listen,
@@ -65,6 +76,7 @@ pub fn read_flags<'a>(
         metrics,
         record_file: matches.get_str("record"),
         record_answers: matches.get_flag("record-answers"),
+        record_bytes,
         until_eof: matches.get_flag("until-eof"),
         log,
         log_level,
@@ -319,7 +331,7 @@ fn with_server<'a>(alloc: Global, command: Command<'a>) -> Result<Command<'a>, A
             alloc,
             "readers",
             "ADDRESS",
-            "Also listen at ADDRESS, read-only: no publishes to broadcast channels [default: none]",
+            "Also listen at ADDRESS, for clients that may not publish [default: none]",
         ))?
         .arg(allowed)?
         .arg(value(
@@ -356,7 +368,7 @@ fn with_times<'a>(alloc: Global, command: Command<'a>) -> Result<Command<'a>, Al
             alloc,
             "max-interval",
             "TIME",
-            "Keep a session for TIME after each accepted message",
+            "End a session TIME after its last accepted message",
         )
         .default_value("10s"))
 }
@@ -415,9 +427,15 @@ fn with_running<'a>(alloc: Global, command: Command<'a>) -> Result<Command<'a>, 
     let answers = switch(
         alloc,
         "record-answers",
-        "Record the SHA-256 of each answer too",
+        "With --record, also record the SHA-256 of each answer",
     )
     .requires_arg("record")?;
+    let bytes = value(
+        alloc,
+        "record-bytes",
+        "N",
+        "With --record, end the record before it has more than N bytes [default: no limit]",
+    );
     // `--figures` is the former name of `--metrics`.
     let metrics = value(
         alloc,
@@ -431,7 +449,7 @@ fn with_running<'a>(alloc: Global, command: Command<'a>) -> Result<Command<'a>, 
             alloc,
             "connections",
             "N",
-            "Exit after N connections, 0 for never",
+            "Accept N connections, and exit once they have ended; 0 for no limit",
         )
         .default_value("0"))?
         .arg(metrics)?
@@ -439,10 +457,11 @@ fn with_running<'a>(alloc: Global, command: Command<'a>) -> Result<Command<'a>, 
             alloc,
             "record",
             "FILE",
-            "Create FILE and record every request in it [default: none]",
+            "Record every request with messages in FILE, which must not exist [default: none]",
         ))?
         .arg(answers)?
-        .arg(switch(alloc, "until-eof", "Exit when standard input closes"))
+        .arg(bytes)?
+        .arg(switch(alloc, "until-eof", "Also exit at the end of standard input"))
 }
 
 fn with_log<'a>(alloc: Global, command: Command<'a>) -> Result<Command<'a>, AllocError> {
@@ -458,7 +477,7 @@ fn with_log<'a>(alloc: Global, command: Command<'a>) -> Result<Command<'a>, Allo
             alloc,
             "log-level",
             "LEVEL",
-            "Log only errors (error), also warnings (warn), or all (info)",
+            "Log only errors (error), errors and warnings (warn), or everything (info)",
         )
         .default_value("info"))
 }

@@ -52,6 +52,8 @@ pub struct Settings<'a> {
     pub record_file: Option<&'a str>,
     /// Whether the record has the SHA-256 of each answer.
     pub record_answers: bool,
+    /// The greatest size of the record in bytes.
+    pub record_bytes: usize,
     /// Whether the server ends at the end of standard input.
     pub until_eof: bool,
     pub log: LogFormat,

@@ -1,83 +1,61 @@
 -- What an admission gives, and what the shards hold over the longer list.
-use Rattle.std.proofs.Common.{arith, ◌≡◌, ℕ, ◌+◌, ◌≤◌, Bool, false, Some, None, List, ◌++◌, length, nat_lt, refl, sym, ap, ◌∙◌, subst, inl, inr, length-append, ltb-false}
-use Rattle.std.specs.Prelude.{Result, Ok, Err, if◌then◌else◌}
-use Rattle.bx_advice.specs.Limits.{greatest_length, greatest_moment}
-use Rattle.bx_entry.specs.Inputs.{ReadInput, Request, Unread, Tick, added_by, refused_beyond, refusal_of}
-use Rattle.bx_entry.specs.Requests.{read_input}
-use Rattle.bx_entry.specs.declared.input.Input.{Input}
-use Rattle.bx_entry.specs.declared.input.Refusal.TheVariants.{BadMoment, Ended}
-use Rattle.bx_entry.proofs.RequestLemmas.{length-listed}
-use Rattle.bx_entry.specs.Placings.{Setup}
-use Rattle.bx_shard.specs.declared.shard.Shard.{Shard}
+use Rattle.std.proofs.Common.{◌≡◌, ℕ, ◌≤◌, None, List, ◌++◌, length, drop, sym, ap, ◌∙◌, subst, arith}
+use Rattle.std.specs.Arc.{arc_value}
+use Rattle.std.proofs.lemmas.List.{drop-append-le}
+use Rattle.bx_entry.specs.Words.{added_by, entries, read_input, refusal_of}
+use Rattle.bx_entry.specs.Placings.{Setup, placed_by}
+use Rattle.bx_entry.specs.declared.{Placing.Ghosts, entry.Entry.Entry, input.Input.Input}
+use Rattle.bx_theory.proofs.Lists.{entries_length}
+use Rattle.bx_registry.specs.Slots.{admitted_slots}
+use Rattle.bx_registry.specs.Standings.{Continues, Standing}
+use Rattle.bx_registry.specs.declared.plan.Plan.{Plan}
 use Rattle.bx_shard.proofs.Holding.{refines_longer_list}
-use Rattle.bx_world.specs.Words.{Admitting, IsAdmission, EachRefines, admission, WorldState, IsOutput, after, output_admit}
-use Rattle.bx_entry.specs.Placings.{placed_by}
-use Rattle.bx_entry.specs.declared.{entry.Admitted.Admitted, input.AdmitFault.AdmitFault}
-use Rattle.bx_entry.specs.declared.input.AdmitFault.TheVariants.{Refused, Memory}
-use Rattle.bx_world.specs.declared.step.Step.TheVariants.{Admit}
-use Rattle.bx_world.specs.declared.step.StepOut.TheVariants as outs
+use Rattle.bx_world.specs.Words.{IsOutput, IsPlanned, Steps, WorldHolds, WorldState, after, setup_of, world_of}
+use Rattle.bx_world.specs.declared.{step.Step.Step, step.StepOut.StepOut, world.World.World}
+use Rattle.bx_world.proofs.Standing.{first_within}
 
--- ---- the list has an end
+module _ {P : Type 0} {g : Ghosts P} where
+  -- A step from `now` is one from `old` if only the reserved record differs.
+  pub same_start : (old now new : World P g) (step : Step) (out : StepOut) → setup_of now ≡ setup_of old → world_of now ≡ world_of old → Steps now step out new → Steps old step out new
+  same_start old now new step out setup world s = record {
+    output = subst (λ (u : Setup). IsOutput u (world_of old) step out) setup (subst (λ (w : WorldState). IsOutput (setup_of now) w step out) world s.output);
+    world = s.world ∙ ap (λ (w : WorldState). after w step out) world;
+    setup = s.setup ∙ setup;
+  }
 
-not_beyond : (b c : Bool) → (if b then Some BadMoment else (if c then Some Ended else None)) ≡ None → c ≡ false
-not_beyond b c e = grind arith
+  module _ (w : World P g) (reg : Standing) where
+    abbrev Over : Standing → List Entry → Type 0
+    Over r kept = WorldHolds g.place_of (placed_by r.config r.shards (g.place_of (arc_value w.placing))) r.list w.taken w.first kept w.shards.items
 
-within_end : (moment end : ℕ) → refused_beyond moment end ≡ None → end ≤ greatest_length
-within_end moment end e = ltb-false greatest_length end (not_beyond (nat_lt greatest_moment moment) (nat_lt greatest_length end) e)
+    pub same_list : reg ≡ record w.registry { ready = reg.ready } → Over reg w.kept.items
+    same_list is = subst (λ (r : Standing). Over r w.kept.items) (sym is) w.holds
 
-room : (len : ℕ) (input : ReadInput) → refusal_of len input ≡ None → len + length (added_by input) ≤ greatest_length
-room len (Request moment nonce ms) e = subst (λ (n : ℕ). len + n ≤ greatest_length) (sym (length-listed moment nonce _ false ms)) (within_end moment (len + length ms) e)
-room len (Unread fault) e = absurd (cc)
-room len (Tick moment) e = within_end moment (len + 1) e
+    pub planned : (plan : Plan) (input : Input) → reg ≡ record w.registry { ready = reg.ready } → refusal_of (length w.registry.list) (read_input input) ≡ None → plan.elements ≡ added_by (read_input input) →
+        plan.slots ≡ admitted_slots (setup_of w) w.registry.list plan.elements → IsPlanned (placed_by reg.config reg.shards (g.place_of (arc_value w.placing))) reg.list input plan
+    planned plan input is accepted elements slots =
+        subst (λ (r : Standing). IsPlanned (placed_by r.config r.shards (g.place_of (arc_value w.placing))) r.list input plan) (sym is) (record { accepted = accepted; elements = elements; slots = slots })
 
-pub still_bounded : (placing : ℕ → ℕ → ℕ) (old new : Admitting) (input : ReadInput) (r : Result Admitted AdmitFault) → IsAdmission placing old input r new → length old.list ≤ greatest_length → length new.list ≤ greatest_length
-still_bounded placing old new input (Ok a) is few =
-    subst (λ (n : ℕ). n ≤ greatest_length) (sym (ap (λ (b : Admitting). length b.list) is.3 ∙ length-append old.list (added_by input))) (room (length old.list) input is.0)
-still_bounded placing old new input (Err (Refused refusal)) is few = subst (λ (b : Admitting). length b.list ≤ greatest_length) (sym is.1) few
-still_bounded placing old new input (Err Memory) is few = subst (λ (b : Admitting). length b.list ≤ greatest_length) (sym is) few
+    pub from_start : (now new : World P g) (step : Step) (out : StepOut) → reg ≡ record w.registry { ready = reg.ready } → setup_of now ≡ placed_by reg.config reg.shards (g.place_of (arc_value w.placing)) →
+        world_of now ≡ record (world_of w) { list = reg.list } → Steps now step out new → Steps w step out new
+    from_start now new step out is setup world =
+        same_start w now new step out (setup ∙ ap (λ (r : Standing). placed_by r.config r.shards (g.place_of (arc_value w.placing))) is) (world ∙ ap (λ (r : Standing). record (world_of w) { list = r.list }) is)
 
--- ---- what shards hold
-
-pub same_shards : (placing : ℕ → ℕ → ℕ) (old new : Admitting) (input : ReadInput) (r : Result Admitted AdmitFault) → IsAdmission placing old input r new → new.shards ≡ old.shards
-same_shards placing old new input r is = grind arith
-
-pub same_first : (placing : ℕ → ℕ → ℕ) (old new : Admitting) (input : ReadInput) (r : Result Admitted AdmitFault) → IsAdmission placing old input r new → new.first ≡ old.first
-same_first placing old new input r is = grind arith
-
-abbrev pub EachOver : {P : Type 0} → (P → ℕ → ℕ → ℕ) → (ℕ → ℕ → ℕ) → List ℕ → List (Shard P) → Admitting → Type 0
-EachOver place_of placing taken xs a = EachRefines place_of (placed_by a.config a.shards placing) a.list taken a.first xs
-
-pub each_longer : {P : Type 0} (place_of : P → ℕ → ℕ → ℕ) (placing : ℕ → ℕ → ℕ) (old new : Admitting) (taken : List ℕ) (xs : List (Shard P)) (input : ReadInput) (r : Result Admitted AdmitFault) →
-    IsAdmission placing old input r new → EachOver place_of placing taken xs old → EachOver place_of placing taken xs new
-each_longer place_of placing old new taken xs input (Ok a) is each =
-    let longer : EachRefines place_of (placed_by old.config old.shards placing) (old.list ++ added_by input) taken old.first xs =
-    λ k s e. record { holds = refines_longer_list (placed_by old.config old.shards placing) old.list (added_by input) taken k s.place _ (each k s e).holds; past = (each k s e).past } in
-    subst (EachOver place_of placing taken xs) (sym is.3) longer
-each_longer place_of placing old new taken xs input (Err (Refused refusal)) is each = subst (EachOver place_of placing taken xs) (sym is.1) each
-each_longer place_of placing old new taken xs input (Err Memory) is each = subst (EachOver place_of placing taken xs) (sym is) each
-
--- ---- the result
-
-pub admission_steps : (placing : ℕ → ℕ → ℕ) (old new : Admitting) (applied taken : List ℕ) (input : Input) (r : Result Admitted AdmitFault) → IsAdmission placing old (read_input input) r new →
-    IsOutput (placed_by old.config old.shards placing) (record { list = old.list; applied = applied; taken = taken }) (Admit input) (admission r)
-    × (record { list = new.list; applied = applied; taken = taken } ≡ after (record { list = old.list; applied = applied; taken = taken }) (Admit input) (admission r))
-    × (placed_by new.config new.shards placing ≡ placed_by old.config old.shards placing)
-admission_steps placing old new applied taken input (Ok a) is =
-    let setup : Setup = placed_by old.config old.shards placing in
-    let w : WorldState = record { list = old.list; applied = applied; taken = taken } in (
-      inl (ap (λ (n : ℕ). outs.Admitted n a.slots) is.1 ∙ ap (outs.Admitted (length old.list)) is.2 ∙ ap (output_admit setup w (read_input input)) (sym is.0)),
-      ap (λ (b : Admitting). record { list = b.list; applied = applied; taken = taken }) is.3,
-      ap (λ (b : Admitting). placed_by b.config b.shards placing) is.3,
-    )
-admission_steps placing old new applied taken input (Err (Refused refusal)) is =
-    let setup : Setup = placed_by old.config old.shards placing in
-    let w : WorldState = record { list = old.list; applied = applied; taken = taken } in (
-      inl (ap (output_admit setup w (read_input input)) (sym is.0)),
-      ap (λ (b : Admitting). record { list = b.list; applied = applied; taken = taken }) is.1,
-      ap (λ (b : Admitting). placed_by b.config b.shards placing) is.1,
-    )
-admission_steps placing old new applied taken input (Err Memory) is = (
-  inr (refl, refl),
-  ap (λ (b : Admitting). record { list = b.list; applied = applied; taken = taken }) is,
-  ap (λ (b : Admitting). placed_by b.config b.shards placing) is,
-)
+    module _ (plan : Plan) (grown : reg ≡ record w.registry { list = w.registry.list ++ plan.elements; ready = reg.ready }) (next : Continues w.registry plan) where
+      pub longer : (kept : List Entry) → kept ≡ w.kept.items ++ plan.batch.entries → Over reg kept
+      longer kept more =
+          let config = w.registry.config in
+          let list = w.registry.list in
+          let long : w.first ≤ length (entries config list) = omega (arith, first_within w, entries_length config list) in
+          subst (λ (r : Standing). Over r kept) (sym grown) (record {
+            bounded = next.change.bounded;
+            some_shard = w.holds.some_shard;
+            shards_in_range = w.holds.shards_in_range;
+            counted = w.holds.counted;
+            holding = λ k s e. record {
+              holds = refines_longer_list (setup_of w) list plan.elements w.taken k s.place _ (w.holds.holding k s e).holds;
+              past = (w.holds.holding k s e).past;
+            };
+            slowest = w.holds.slowest;
+            kept_is = more ∙ ap (λ (es : List Entry). es ++ plan.batch.entries) w.holds.kept_is
+                ∙ sym (drop-append-le w.first (entries config list) plan.batch.entries long) ∙ ap (drop w.first) (sym next.entries);
+          })

@@ -5,7 +5,6 @@ pub mod Giving
 pub mod Repeats
 pub mod Apart
 pub mod AsOne
-pub mod Admitting
 pub mod Applications
 pub mod Growing
 pub mod Rows

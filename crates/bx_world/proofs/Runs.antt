@@ -19,8 +19,8 @@ module _ {P : Type 0} {g : Ghosts P} where
     given = given;
     behind = b;
     runs = r;
-    one = headline (setup_of old) (world_of old) steps given (world_of new) (omega (arith, old.admission.config.limits.some_batch)) r;
-    holds = λ k x e. (new.holding k x e).holds;
+    one = headline (setup_of old) (world_of old) steps given (world_of new) (omega (arith, old.registry.config.limits.some_batch)) r;
+    holds = λ k x e. (new.holds.holding k x e).holds;
     setup = s;
   }
 

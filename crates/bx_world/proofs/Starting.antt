@@ -5,11 +5,14 @@ use Rattle.std.specs.Arc.{arc_value}
 use Rattle.bx_history.proofs.Elements.{each_push}
 use Rattle.bx_advice.specs.declared.config.Config.{Config}
 use Rattle.bx_entry.specs.Listing.{Listed}
+use Rattle.bx_entry.specs.declared.entry.Entry.{Entry}
+use Rattle.bx_registry.specs.Standings.{Standing}
 use Rattle.bx_shard.specs.Words.{Refines, setup_in, state, IsSound, connect_in, session_in}
 use Rattle.bx_shard.specs.declared.shard.Shard.{Shard}
 use Rattle.bx_shard.proofs.Holding.{refines_when_new}
-use Rattle.bx_world.specs.Words.{Admitting, EachRefines, WorldState, new_world}
+use Rattle.bx_world.specs.Words.{EachRefines, WorldHolds, WorldState, new_world}
 use Rattle.bx_entry.specs.Placings.{placed_by}
+use Rattle.bx_world.proofs.Slowest.{all_stand}
 
 pub record IsFirst {P : Type 0} (place_of : P → ℕ → ℕ → ℕ) (config : Config) (placing : P) (k : ℕ) (s : Shard P) : Type 0 where
   pub config_is : s.sessions.config ≡ config
@@ -53,15 +56,29 @@ all_same f (x ∷ xs) (suc n) m e each =
 pub first_places : {P : Type 0} (place_of : P → ℕ → ℕ → ℕ) (config : Config) (placing : P) (xs : List (Shard P)) (n : ℕ) → length xs ≡ n → AreFirst place_of config placing xs → map (λ (s : Shard P). s.place) xs ≡ replicate n 0
 first_places {P} place_of config placing xs n e each = all_same (λ (s : Shard P). s.place) xs n 0 e (λ k s g. (each k s g).place_is)
 
-pub world_first : (placing : ℕ → ℕ → ℕ) (config : Config) (a : Admitting) (ns taken : List ℕ) → a ≡ record { config = config; shards = config.shards; list = []; first = 0 } → ns ≡ replicate config.shards 0 → taken ≡ [] →
-    record { list = a.list; applied = ns; taken = taken } ≡ new_world (placed_by a.config a.shards placing)
-world_first placing config a ns taken e n t =
-    let listed : a.list ≡ [] = ap (λ (b : Admitting). b.list) e in
-    let places : ns ≡ replicate a.shards 0 = n ∙ sym (ap (λ (b : Admitting). replicate b.shards 0) e) in
-    let one : WorldState = record { list = a.list; applied = ns; taken = taken } in
-    let two : WorldState = record { list = []; applied = ns; taken = taken } in
-    let three : WorldState = record { list = []; applied = ns; taken = [] } in
-    let first : one ≡ two = ap (λ (xs : List Listed). record { list = xs; applied = ns; taken = taken }) listed in
-    let second : two ≡ three = ap (λ (xs : List ℕ). record { list = []; applied = ns; taken = xs }) t in
-    let third : three ≡ new_world (placed_by a.config a.shards placing) = ap (λ (xs : List ℕ). record { list = []; applied = xs; taken = [] }) places in
-    first ∙ second ∙ third
+-- ---- the new world
+
+module _ {P : Type 0} (place_of : P → ℕ → ℕ → ℕ) (config : Config) (placing : P) (reg : Standing) (is : (reg.config ≡ config) × (reg.shards ≡ config.shards) × (reg.list ≡ [])) where
+  same_standing : (X : Config → ℕ → List Listed → Type 0) → X config config.shards [] → X reg.config reg.shards reg.list
+  same_standing X x =
+      subst (λ (c : Config). X c reg.shards reg.list) (sym is.0)
+      (subst (λ (n : ℕ). X config n reg.list) (sym is.1) (subst (X config config.shards) (sym is.2) x))
+
+  pub holds_first : (xs : List (Shard P)) (kept : List Entry) (taken : List ℕ) → kept ≡ [] → taken ≡ [] → length xs ≡ config.shards → AreFirst place_of config placing xs →
+      WorldHolds place_of (placed_by reg.config reg.shards (place_of placing)) reg.list taken 0 kept xs
+  holds_first xs kept taken none_kept none_taken many each =
+      same_standing (λ c n list. WorldHolds place_of (placed_by c n (place_of placing)) list taken 0 kept xs) (record {
+        bounded = omega arith;
+        some_shard = config.some_shard;
+        shards_in_range = config.shards_in_range;
+        counted = many;
+        holding = subst (λ (ns : List ℕ). EachRefines place_of (placed_by config config.shards (place_of placing)) [] ns 0 xs) (sym none_taken) (first_hold place_of config placing xs each);
+        slowest = all_stand xs config.shards 0 (first_places place_of config placing xs config.shards many each) config.some_shard;
+        kept_is = none_kept;
+      })
+
+  pub world_first : (ns taken : List ℕ) → ns ≡ replicate config.shards 0 → taken ≡ [] →
+      record { list = reg.list; applied = ns; taken = taken } ≡ new_world (placed_by reg.config reg.shards (place_of placing))
+  world_first ns taken n t =
+      same_standing (λ c m list. record { list = list; applied = ns; taken = taken } ≡ new_world (placed_by c m (place_of placing)))
+      (ap (λ (xs : List ℕ). record { list = []; applied = xs; taken = taken }) n ∙ ap (λ (xs : List ℕ). record { list = []; applied = replicate config.shards 0; taken = xs }) t)

@@ -1,5 +1,5 @@
 -- What a taking gives, and what the shards hold after it.
-use Rattle.std.proofs.Common.{◌≡◌, ℕ, ◌<◌, ◌≤◌, ◌==◌, true, Option, Some, None, [], ◌∷◌, ◌++◌, length, find, option_map, nat_eq, nat_lt, slice_get, slice_set, sym, ap, ◌∙◌, subst, arith, inl}
+use Rattle.std.proofs.Common.{◌≡◌, ℕ, ◌<◌, ◌≤◌, ◌==◌, true, Option, Some, None, List, [], ◌∷◌, ◌++◌, length, find, option_map, nat_eq, nat_lt, slice_get, slice_set, sym, ap, ◌∙◌, subst, arith, inl}
 use Rattle.std.specs.Prelude.{slice_index, if◌then◌else◌}
 use Rattle.std.specs.Option.{IsSome}
 use Rattle.std.proofs.lemmas.Bool.{cond-true, lt-ltb, eq-eqb}
@@ -11,11 +11,11 @@ use Rattle.bx_shard.specs.Words.{Refines, Took, filed_with_place, given_of, stat
 use Rattle.bx_connects.specs.declared.connects.ConnectState.{ConnectState}
 use Rattle.bx_shard.specs.declared.shard.Shard.{Shard}
 use Rattle.bx_shard.proofs.{Given.as_before, Given.given_filed, Holding.refines_unchanged, Taking.refines_other_taken, Taking.refines_taken}
-use Rattle.bx_world.specs.Words.{EachRefines, RefinesFrom, setup_of, world_of, IsOutput, filed_under}
+use Rattle.bx_world.specs.Words.{RefinesFrom, WorldHolds, setup_of, world_of, IsOutput, filed_under}
 use Rattle.bx_world.specs.declared.world.World.{World}
 use Rattle.bx_world.specs.declared.step.Step.TheVariants.{Take}
 use Rattle.bx_world.specs.declared.step.StepOut.TheVariants.{Taken}
-use Rattle.bx_world.proofs.Standing.{each_with, holds_there, in_range, place_there}
+use Rattle.bx_world.proofs.Standing.{each_with, holds_there, in_range, place_there, still_holds}
 
 -- ---- one connect
 
@@ -34,7 +34,7 @@ module _ {P : Type 0} {g : Ghosts P} (w : World P g) (t : Ticket) (old new : Sha
   abbrev is : State
   is = state g.place_of new
 
-  here : RefinesFrom g.place_of (setup_of w) w.admission.list w.taken w.admission.first t.shard old
+  here : RefinesFrom g.place_of (setup_of w) w.registry.list w.taken w.first t.shard old
   here = holds_there w t.shard old there
 
   pub own : nat_eq t.shard old.index ≡ true
@@ -44,7 +44,7 @@ module _ {P : Type 0} {g : Ghosts P} (w : World P g) (t : Ticket) (old new : Sha
   answered o e = e ∙ cond-true (nat_eq t.shard old.index) (filed_answer (connect_in was t.place)) None own
 
   abbrev found_at : ℕ → ℕ → Option PlacedAnswer
-  found_at place n = option_map answer_of (find (λ (f : Filed). f.connect == place) (shard_at (setup_of w) w.admission.list w.taken t.shard n).filed)
+  found_at place n = option_map answer_of (find (λ (f : Filed). f.connect == place) (shard_at (setup_of w) w.registry.list w.taken t.shard n).filed)
 
   filed_here : (place : ℕ) → filed_under (setup_of w) (world_of w) (record t { place = place }) ≡ filed_with_place (connect_in was place)
   filed_here place =
@@ -57,27 +57,33 @@ module _ {P : Type 0} {g : Ghosts P} (w : World P g) (t : Ticket) (old new : Sha
   pub none_filed : ((p : ℕ) → filed_answer (connect_in was p) ≡ None) → (place : ℕ) → filed_under (setup_of w) (world_of w) (record t { place = place }) ≡ None
   none_filed none place = filed_here place ∙ none_placed (connect_in was place) (none place)
 
-  pub each_same : new ≡ old → EachRefines g.place_of (setup_of w) w.admission.list w.taken w.admission.first (slice_set w.shards.items t.shard new)
-  each_same same = each_with w t.shard old there new w.taken (subst (RefinesFrom g.place_of (setup_of w) w.admission.list w.taken w.admission.first t.shard) (sym same) here) (λ j x apart h. h)
+  abbrev Now : List ℕ → Type 0
+  Now taken = WorldHolds g.place_of (setup_of w) w.registry.list taken w.first w.kept.items (slice_set w.shards.items t.shard new)
 
-  past_still : new.place ≡ old.place → w.admission.first ≤ new.place
-  past_still e = subst (λ (n : ℕ). w.admission.first ≤ n) (sym e) here.past
+  abbrev IsFrom : List ℕ → Type 0
+  IsFrom taken = RefinesFrom g.place_of (setup_of w) w.registry.list taken w.first t.shard new
 
-  pub each_still : None ≡ filed_answer (connect_in was t.place) → Took t.place was is → IsSound is → EachRefines g.place_of (setup_of w) w.admission.list w.taken w.admission.first (slice_set w.shards.items t.shard new)
-  each_still none took sound = each_with w t.shard old there new w.taken (record {
-    holds = subst (λ (n : ℕ). Refines (setup_of w) w.admission.list w.taken t.shard n is) (sym took.place_is)
-        (refines_unchanged (setup_of w) w.admission.list w.taken t.shard old.place was is here.holds (as_before t.place was is (sym none) took) sound);
-    past = past_still took.place_is;
-  }) (λ j x apart h. h)
+  pub holds_same : new ≡ old → Now w.taken
+  holds_same same =
+      still_holds w t.shard old there new w.taken (ap (λ (s : Shard P). s.place) same)
+      (each_with w t.shard old there new w.taken (subst (RefinesFrom g.place_of (setup_of w) w.registry.list w.taken w.first t.shard) (sym same) here) (λ j x apart h. h))
 
-  pub each_taken : (a : Answer) → Some a ≡ filed_answer (connect_in was t.place) → Took t.place was is → IsSound is →
-      EachRefines g.place_of (setup_of w) w.admission.list (w.taken ++ t.place ∷ []) w.admission.first (slice_set w.shards.items t.shard new)
-  each_taken a some took sound =
-      let room : 0 < w.admission.config.limits.batch = omega (arith, w.admission.config.limits.some_batch) in
+  from_there : (taken : List ℕ) → Took t.place was is → Refines (setup_of w) w.registry.list taken t.shard old.place is → IsFrom taken
+  from_there taken took held = record {
+    holds = subst (λ (n : ℕ). Refines (setup_of w) w.registry.list taken t.shard n is) (sym took.place_is) held;
+    past = subst (λ (n : ℕ). w.first ≤ n) (sym took.place_is) here.past;
+  }
+
+  pub holds_still : None ≡ filed_answer (connect_in was t.place) → Took t.place was is → IsSound is → Now w.taken
+  holds_still none took sound =
+      still_holds w t.shard old there new w.taken took.place_is (each_with w t.shard old there new w.taken
+      (from_there w.taken took (refines_unchanged (setup_of w) w.registry.list w.taken t.shard old.place was is here.holds (as_before t.place was is (sym none) took) sound)) (λ j x apart h. h))
+
+  pub holds_taken : (a : Answer) → Some a ≡ filed_answer (connect_in was t.place) → Took t.place was is → IsSound is → Now (w.taken ++ t.place ∷ [])
+  holds_taken a some took sound =
+      let room : 0 < w.registry.config.limits.batch = omega (arith, w.registry.config.limits.some_batch) in
       let filed : IsSome (filed_answer (connect_in was t.place)) = some_filed (filed_answer (connect_in was t.place)) a some in
-      each_with w t.shard old there new (w.taken ++ t.place ∷ []) (record {
-        holds = subst (λ (n : ℕ). Refines (setup_of w) w.admission.list (w.taken ++ t.place ∷ []) t.shard n is) (sym took.place_is)
-            (refines_taken (setup_of w) w.admission.list w.taken t.shard old.place t.place was is room here.holds filed took sound);
-        past = past_still took.place_is;
-      })
-      (λ j x apart h. record { holds = refines_other_taken (setup_of w) w.admission.list w.taken t.shard old.place t.place was j x.place (state g.place_of x) room here.holds filed apart h.holds; past = h.past })
+      let taken : List ℕ = w.taken ++ t.place ∷ [] in
+      still_holds w t.shard old there new taken took.place_is (each_with w t.shard old there new taken
+      (from_there taken took (refines_taken (setup_of w) w.registry.list w.taken t.shard old.place t.place was is room here.holds filed took sound))
+      (λ j x apart h. record { holds = refines_other_taken (setup_of w) w.registry.list w.taken t.shard old.place t.place was j x.place (state g.place_of x) room here.holds filed apart h.holds; past = h.past }))

@@ -2,8 +2,6 @@ pub mod Worlds
 pub mod Schedules
 pub mod Headline
 pub mod Outputs
-pub mod Backlogs
-pub mod Admissions
 pub mod Refining
 pub mod Seen
 pub mod Words

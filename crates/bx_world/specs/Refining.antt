@@ -1,7 +1,8 @@
 -- When the shards of a world agree with their definition `shard_at`.
-use Rattle.std.specs.Prelude.{ℕ, ◌≡◌, ◌≤◌, ◌==◌, Bool, false, List, map, slice_get, Some, None}
+use Rattle.std.specs.Prelude.{ℕ, ◌≡◌, ◌≤◌, ◌==◌, Bool, true, false, List, drop, length, map, slice_get, Some, None}
 use Rattle.std.specs.List.{list_any}
-use Rattle.bx_entry.specs.Listing.{Listed}
+use Rattle.bx_advice.specs.Limits.{greatest_length}
+use Rattle.bx_entry.specs.Words.{Listed, entries}
 use Rattle.bx_entry.specs.declared.entry.Entry.{Entry}
 use Rattle.bx_shard.specs.Words.{Refines, state, Setup, IsAsBefore, IsSound, takes_no_memory}
 use Rattle.bx_shard.specs.States as states
@@ -31,6 +32,18 @@ StandWithin {P} end shards = (k : ℕ) (s : Shard P) → slice_get shards k ≡ 
 -- Whether some shard has applied exactly the entries below `place`.
 abbrev pub some_stands_at : {P : Type 0} → ℕ → List (Shard P) → Bool
 some_stands_at {P} place shards = list_any (λ n. n == place) (map (λ (s : Shard P). s.place) shards)
+
+-- The invariant of a world. Its shards agree with their definitions, and the slowest has applied
+-- exactly the entries below `first`. The entries from there on are `kept`.
+pub record WorldHolds {P : Type 0} (place_of : P → ℕ → ℕ → ℕ) (setup : Setup) (list : List Listed) (taken : List ℕ)
+    (first : ℕ) (kept : List Entry) (shards : List (Shard P)) : Type 0 where
+  pub bounded : length list ≤ greatest_length
+  pub some_shard : 1 ≤ setup.shards
+  pub shards_in_range : setup.shards ≤ 64
+  pub counted : length shards ≡ setup.shards
+  pub holding : EachRefines place_of setup list taken first shards
+  pub slowest : some_stands_at first shards ≡ true
+  pub kept_is : kept ≡ drop first (entries setup.config list)
 
 -- `new` is the shard `old` after it applied its next entry of `list`.
 pub record HasApplied {P : Type 0} (place_of : P → ℕ → ℕ → ℕ) (list : List Entry) (old new : Shard P) : Type 0 where

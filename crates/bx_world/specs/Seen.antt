@@ -12,12 +12,12 @@ use Rattle.bx_world.specs.declared.{step.Step.Step, step.StepOut.StepOut, world.
 module _ {P : Type 0} {g : Ghosts P} where
   -- The configuration of a world, with its number of shards and its placing.
   abbrev pub setup_of : World P g → Setup
-  setup_of w = placed_by w.admission.config w.admission.shards (g.place_of (arc_value w.placing))
+  setup_of w = placed_by w.registry.config w.registry.shards (g.place_of (arc_value w.placing))
 
   -- The program's world as a `WorldState`: the list, how many entries each shard has applied, and
   -- the places of the taken answers.
   abbrev pub world_of : World P g → WorldState
-  world_of w = record { list = w.admission.list; applied = map (λ (s : Shard P). s.place) w.shards.items; taken = w.taken }
+  world_of w = record { list = w.registry.list; applied = map (λ (s : Shard P). s.place) w.shards.items; taken = w.taken }
 
   -- `new` is the world `old` after `step` with the output `out`, which is one that the definition
   -- `IsOutput` allows. The setup is unchanged.
@@ -29,7 +29,7 @@ module _ {P : Type 0} {g : Ghosts P} where
   -- Each shard agrees with its definition `shard_at` for its index and place. It has the same live
   -- sessions, with queue, batch and counts, and the same filed answers.
   abbrev pub ShardsRefine : World P g → Type 0
-  ShardsRefine w = (k : ℕ) (s : Shard P) → slice_get w.shards.items k ≡ Some s → Refines (setup_of w) w.admission.list w.taken k s.place (state g.place_of s)
+  ShardsRefine w = (k : ℕ) (s : Shard P) → slice_get w.shards.items k ≡ Some s → Refines (setup_of w) w.registry.list w.taken k s.place (state g.place_of s)
 
   -- `steps` ran in order and changed the world `old` to `new`. `outs` is `before` followed by their
   -- outputs. The outputs are those of a server that handles one message at a time. The shards of

@@ -1,8 +1,9 @@
 -- A world of shards, step by step: admission, application and taking.
 use Rattle.std.specs.Prelude.{if◌then◌else◌, ℕ, find, ◌+◌, ◌==◌, ◌||◌, ◌&&◌, ◌≡◌, ◌⊎◌, not, Bool, true, false, List, [], ◌∷◌, ◌++◌, length, replicate, nat_lt, slice_get, slice_index, slice_set, Option, Some, None, option_map}
 use Rattle.bx_entry.specs.Words.{Listed, ReadInput, added_by, refusal_of, read_input, entries, Filed, PlacedAnswer, answer_of}
-use Rattle.bx_entry.specs.declared.{entry.Entry.Entry, entry.Ticket.Ticket, input.Refusal.Refusal}
+use Rattle.bx_entry.specs.declared.{entry.Entry.Entry, entry.Ticket.Ticket, input.Input.Input, input.Refusal.Refusal}
 use Rattle.bx_registry.specs.Slots.{admitted_slots}
+use Rattle.bx_registry.specs.declared.plan.Plan.{Plan}
 use Rattle.bx_shard.specs.Words.{given_of, Setup, shard_at, takes_no_memory}
 use Rattle.bx_world.specs.declared.step.{Step.Step, StepOut.StepOut}
 use Rattle.bx_world.specs.declared.step.Step.TheVariants.{Admit, Apply, Take}
@@ -39,6 +40,13 @@ filed_under setup w t =
 abbrev pub output_admit : Setup → WorldState → ReadInput → Option Refusal → StepOut
 output_admit setup w input None = Admitted (length w.list) (admitted_slots setup w.list (added_by input))
 output_admit setup w input (Some refusal) = NotAdmitted refusal
+
+-- The plan is right for an input that the list accepts: it has the elements that the input adds,
+-- and their slots.
+pub record IsPlanned (setup : Setup) (list : List Listed) (input : Input) (plan : Plan) : Type 0 where
+  pub accepted : refusal_of (length list) (read_input input) ≡ None
+  pub elements : plan.elements ≡ added_by (read_input input)
+  pub slots : plan.slots ≡ admitted_slots setup list plan.elements
 
 -- The output of a step if there is enough memory.
 abbrev pub output : Setup → WorldState → Step → StepOut

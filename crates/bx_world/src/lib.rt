@@ -1,8 +1,6 @@
 //! The server for one thread: a list of requests and ticks that shards apply in any interleaving.
 #![tactic(auto)]
 
-mod admission;
-mod backlog;
 mod laws;
 mod step;
 mod world;

@@ -1,20 +1,23 @@
-ghost use Rattle.std.specs.Prelude.{◌≡◌, ◌<◌, ◌≤◌, length, true};
+ghost use Rattle.std.specs.Prelude.{ℕ, ◌≡◌, ◌+◌, ◌-◌, ◌<◌, ◌≤◌, ◌++◌, List, drop, length, option_map, slice_get, true, IfSome};
 ghost use Rattle.std.specs.Arc.{arc_value};
+ghost use Rattle.std.specs.VecDeque.{deque_capacity, deque_len};
 ghost use Rattle.bx_advice.specs.Limits.{greatest_length};
 ghost use Rattle.bx_entry.specs.Registry.{count_live, entries, registry};
 ghost use Rattle.bx_entry.specs.Placings.{placed_by};
-ghost use Rattle.bx_world.specs.Refining.{EachRefines, IsApplication, StandFrom, StandWithin, some_stands_at};
+ghost use Rattle.bx_entry.specs.declared.entry.Entry.{Entry};
+ghost use Rattle.bx_world.specs.Refining.{IsApplication, StandFrom, StandWithin, WorldHolds, some_stands_at};
 ghost use Rattle.bx_shard.specs.Props.{holds_props};
 
-use crate::admission::Intake;
 use crate::step::{Applied, Step, StepOut};
 use bx_advice::{Config, ShardCount, WorkerCount};
 use bx_entry::{AdmitFault, Admitted, Arrival, Entry, Input, Placing, Ticket};
 use bx_history::History;
-use bx_message::Answer;
+use bx_message::{Answer, Sequence};
+use bx_registry::{Plan, Registry};
 use bx_reshard::redistribute;
 use bx_shard::{Gate, Shard, TakenAnswer, Wakers};
 use std::alloc::{AllocError, Global};
+use std::collections::VecDeque;
 use std::sync::Arc;
 use std::thread::Threads;
 
@@ -25,32 +28,31 @@ use std::thread::Threads;
 #[derive(Drop)]
 pub struct World<P: Placing> {
     placing: Arc<P>,
-    admission: Intake,
+    registry: Registry,
+    /// The entries of the list from place `first` on.
+    kept: VecDeque<Entry>,
+    first: u64,
     shards: Vec<Shard<P>>,
     taken: History<u64>,
-    ghost bounded: { length admission.list ≤ greatest_length },
-    ghost some_shard: { 1 ≤ admission.shards },
-    ghost shards_in_range: { admission.shards ≤ 64 },
-    ghost counted: { length shards.items ≡ admission.shards },
-    ghost holding: { EachRefines P.place_of (placed_by admission.config admission.shards (P.place_of (arc_value placing)))
-        admission.list taken admission.first shards.items } by { Prim.hlevel holds_props },
-    ghost slowest: { some_stands_at admission.first shards.items ≡ true },
+    ghost holds: { WorldHolds P.place_of (placed_by registry.config registry.shards (P.place_of (arc_value placing)))
+        registry.list taken first kept.items shards.items } by { Prim.hlevel holds_props },
 }
 
 impl<P: Placing> World<P> {
     ghost use Rattle.std.specs.List.{list_any};
-    ghost use Rattle.std.specs.Prelude.{ℕ, ◌⊎◌, ◌+◌, ◌-◌, ◌==◌, None, Some, false, slice_get, count_by, nat_lt, replicate, Err, IfOk, IfErr, IfSome, IfNone};
+    ghost use Rattle.std.specs.Prelude.{◌⊎◌, ◌==◌, None, Some, false, count_by, nat_lt, replicate, Err, IfOk, IfErr, IfNone};
     ghost use Rattle.bx_entry.specs.Inputs.{refusal_of};
     ghost use Rattle.bx_entry.specs.Requests.{read_input};
-    ghost use Rattle.bx_entry.specs.declared.entry.Entry.{Entry};
+    ghost use Rattle.bx_entry.specs.declared.input.Input.{Input};
     ghost use Rattle.bx_entry.specs.declared.input.Input.TheVariants.{Post, Tick};
     ghost use Rattle.bx_shard.specs.States.{takes_no_memory};
     ghost use Rattle.bx_entry.specs.declared.input.AdmitFault.TheVariants.{Refused};
     ghost use Rattle.bx_world.specs.declared.step.Step.TheVariants.{Admit, Apply, Take};
     ghost use Rattle.bx_world.specs.declared.step.StepOut.TheVariants.{Taken};
     ghost use Rattle.bx_world.specs.Outputs.{admission, application};
+    ghost use Rattle.bx_registry.specs.Standings.{Continues};
     ghost use Rattle.bx_world.specs.Seen.{RanUpTo, Steps, setup_of, world_of};
-    ghost use Rattle.bx_world.specs.Worlds.{filed_under, new_world};
+    ghost use Rattle.bx_world.specs.Worlds.{IsPlanned, filed_under, new_world};
 
     /// Creates a world with an empty list and `config.shards` shards.
     ///
@@ -67,8 +69,10 @@ impl<P: Placing> World<P> {
             shards.push(shard)?;
         }
         Ok(World {
-            admission: Intake::new(alloc, config)?,
             placing,
+            registry: Registry::new(alloc, config)?,
+            kept: VecDeque::new(alloc),
+            first: 0,
             shards,
             taken: History::new(),
         })
@@ -88,7 +92,15 @@ impl<P: Placing> World<P> {
     pub fn admit(&mut self, alloc: Global, arrival: &Arrival) -> Result<Admitted, AdmitFault>
         ensures { Steps self.old (Admit (Post arrival.now)) (admission result) self.new }
     {
-        self.admission.post(alloc, &*self.placing, arrival)
+        let messages = arrival.read(alloc)?;
+        let plan = self.registry.plan(
+            alloc,
+            &*self.placing,
+            arrival.moment,
+            arrival.nonce,
+            &messages,
+        )?;
+        self.append(plan)
     }
 
     /// Appends a tick to the list, and returns its place.
@@ -102,7 +114,29 @@ impl<P: Placing> World<P> {
         ensures step { Steps self.old (Admit (Tick moment)) (admission result) self.new }
         ensures refused { IfSome (refusal_of (length (world_of self.old).list) (read_input (Tick moment))) (λ refusal. result ≡ Err (Refused refusal)) }
     {
-        self.admission.tick(alloc, moment)
+        let plan = self.registry.plan_tick(alloc, moment)?;
+        self.append(plan)
+    }
+
+    // Commits `plan` and keeps its entries.
+    fn append(&mut self, plan: Plan) -> Result<Admitted, AdmitFault>
+        requires { Continues self.old.registry plan }
+        ensures { (input : Input) → IsPlanned (setup_of self.old) (world_of self.old).list input plan
+            → Steps self.old (Admit input) (admission result) self.new }
+    {
+        let Plan {
+            batch,
+            slots,
+            elements,
+            change,
+        } = plan;
+        self.kept.reserve(batch.entries.len())?;
+        self.registry.commit(change, &elements);
+        push_all(&mut self.kept, batch.entries);
+        Ok(Admitted {
+            first: batch.first,
+            slots,
+        })
     }
 
     /// Applies the next entry of the list to the shard with index `shard`.
@@ -115,8 +149,8 @@ impl<P: Placing> World<P> {
             return Applied::Level;
         };
         let place = next.place();
-        let applied = apply_next(alloc, next, &self.admission);
-        forget_applied(&mut self.admission, &self.shards, place);
+        let applied = apply_next(alloc, next, entry_at(&self.kept, self.first, place));
+        drop_applied(&mut self.kept, &mut self.first, &self.shards, place);
         applied
     }
 
@@ -157,11 +191,10 @@ impl<P: Placing> World<P> {
             → takes_no_memory e ≡ false }
         ensures count { result ≡ count_by (λ n. nat_lt n (length (world_of self.new).list)) (world_of self.new).applied }
     {
-        let first = self.admission.first();
-        let behind = self
-            .admission
-            .bring_up(rt, alloc, gate, workers, &mut self.shards);
-        forget_applied(&mut self.admission, &self.shards, first);
+        let kept = self.kept.make_contiguous();
+        let behind = bx_shard::bring_up(rt, alloc, gate, workers, &mut self.shards, kept);
+        let first = self.first;
+        drop_applied(&mut self.kept, &mut self.first, &self.shards, first);
         behind
     }
 
@@ -176,7 +209,7 @@ impl<P: Placing> World<P> {
     pub fn entries(&self) -> u64
         ensures { result ≡ length (world_of self.now).list }
     {
-        self.admission.entries()
+        self.registry.entries()
     }
 
     /// Returns the number of entries that the slowest shard has yet to apply.
@@ -185,9 +218,7 @@ impl<P: Placing> World<P> {
         ensures in_list { result ≤ length (world_of self.now).list }
         ensures some { list_any (λ n. n == length (world_of self.now).list - result) (world_of self.now).applied ≡ true }
     {
-        self.admission
-            .entries()
-            .saturating_sub(self.admission.first())
+        self.kept.len() as u64
     }
 
     /// Returns the entry at `place`, if some shard has yet to apply it.
@@ -196,17 +227,17 @@ impl<P: Placing> World<P> {
         ensures none { IfNone result ((length (world_of self.now).list ≤ place)
             ⊎ ((k n : ℕ) → slice_get (world_of self.now).applied k ≡ Some n → place < n)) }
     {
-        if place < self.admission.first() {
+        if place < self.first {
             return None;
         }
-        self.admission.entry(place)
+        entry_at(&self.kept, self.first, place)
     }
 
     /// Returns how many sessions are live.
     pub fn sessions(&self) -> usize
         ensures { result ≡ count_live (registry (setup_of self.now).config (world_of self.now).list).sessions }
     {
-        self.admission.sessions()
+        self.registry.sessions()
     }
 
     /// Takes any one answer that the shard with index `shard` has filed.
@@ -247,16 +278,20 @@ impl<P: Placing> World<P> {
         };
         let World {
             placing: former,
-            mut admission,
+            mut registry,
+            kept,
+            first,
             shards: row,
             taken,
         } = self;
         match redistribute(alloc, row, shards, own) {
             Ok(row) => {
-                admission.reshard(shards);
+                registry.reshard(shards);
                 Ok(World {
                     placing,
-                    admission,
+                    registry,
+                    kept,
+                    first,
                     shards: row,
                     taken,
                 })
@@ -264,7 +299,9 @@ impl<P: Placing> World<P> {
             Err((row, error)) => {
                 let world = World {
                     placing: former,
-                    admission,
+                    registry,
+                    kept,
+                    first,
                     shards: row,
                     taken,
                 };
@@ -331,14 +368,33 @@ impl<P: Placing> World<P> {
     }
 }
 
-// Applies the next entry to `shard`. `admission` must have kept it. A world registers no wakers, so
-// the list of wakers stays empty.
-fn apply_next<P: Placing>(alloc: Global, shard: &mut Shard<P>, admission: &Intake) -> Applied
-    requires kept { admission.now.first ≤ shard.old.place }
-    requires end { length admission.now.list ≤ greatest_length }
-    ensures { IsApplication P.place_of (entries admission.now.config admission.now.list) shard.old result shard.new }
+// Appends `entries` to `kept`, which has room for them.
+fn push_all(kept: &mut VecDeque<Entry>, entries: Sequence<Entry>)
+    requires { deque_len kept.old + length entries ≤ deque_capacity kept.old }
+    ensures { kept.new.items ≡ kept.old.items ++ entries }
 {
-    let Some(entry) = admission.entry(shard.place()) else {
+    for entry in entries.into_vec() {
+        kept.push_back_reserved(entry);
+    }
+}
+
+// Returns the entry at `place`, if it is in the list. `kept` has the entries from `first` on.
+fn entry_at(kept: &VecDeque<Entry>, first: u64, place: u64) -> Option<&Entry>
+    requires { first ≤ place }
+    ensures { option_map (λ e. e.now) result ≡ slice_get kept.now.items (place - first) }
+{
+    kept.get((place - first) as usize)
+}
+
+// Applies `next`, the next entry of the list, to `shard`. A world registers no wakers, so the list
+// of wakers stays empty.
+fn apply_next<P: Placing>(alloc: Global, shard: &mut Shard<P>, next: Option<&Entry>) -> Applied
+    requires next { IfSome next (λ e. e.now.place ≡ shard.old.place) }
+    requires end { IfSome next (λ e. e.now.place < greatest_length) }
+    ensures { (list : List Entry) → option_map (λ e. e.now) next.entry ≡ slice_get list shard.old.place
+        → IsApplication P.place_of list shard.old result shard.new }
+{
+    let Some(entry) = next else {
         return Applied::Level;
     };
     let mut wakers = Wakers::new(alloc);
@@ -348,22 +404,31 @@ fn apply_next<P: Placing>(alloc: Global, shard: &mut Shard<P>, admission: &Intak
     }
 }
 
-// Drops the entries that all of `shards` have applied. `place`: the place of a shard before it
-// advanced. If that is after the first kept entry, another shard still needs that entry.
-fn forget_applied<P: Placing>(admission: &mut Intake, shards: &[Shard<P>], place: u64)
-    requires first { StandFrom admission.old.first shards.now }
-    requires end { StandWithin (length admission.old.list) shards.now }
+// Drops the entries that all of `shards` have applied. `kept` has the entries from `first` on.
+// `place`: the place of a shard before it advanced. If that is after `first`, another shard still
+// needs the entry at `first`.
+fn drop_applied<P: Placing>(
+    kept: &mut VecDeque<Entry>,
+    first: &mut u64,
+    shards: &[Shard<P>],
+    place: u64,
+)
+    requires first { StandFrom first.old shards.now }
+    requires end { StandWithin (first.old + length kept.old.items) shards.now }
     requires some { 1 ≤ length shards.now }
-    requires slowest { admission.old.first < place → some_stands_at admission.old.first shards.now ≡ true }
-    ensures first { StandFrom admission.new.first shards.now }
-    ensures slowest { some_stands_at admission.new.first shards.now ≡ true }
-    ensures others { admission.new ≡ record admission.old { first = admission.new.first } }
+    requires slowest { first.old < place → some_stands_at first.old shards.now ≡ true }
+    ensures first { StandFrom first.new shards.now }
+    ensures slowest { some_stands_at first.new shards.now ≡ true }
+    ensures onward { first.old ≤ first.new }
+    ensures kept { kept.new.items ≡ drop (first.new - first.old) kept.old.items }
 {
-    if place > admission.first() {
+    if place > *first {
         return;
     }
     if let Some(shard) = shards.first() {
-        admission.forget(least_place(shards, shard.place()));
+        let least = least_place(shards, shard.place());
+        kept.drain(..(least - *first) as usize);
+        *first = least;
     }
 }
 

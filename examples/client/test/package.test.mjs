@@ -1,4 +1,4 @@
-// The package as npm installs it into an empty project: what it has, what it defines, its types, and that it works with a real server.
+// The package as another one uses it: what it has, what it defines, its types, and that it works with a real server.
 import assert from 'node:assert/strict';
 import { execFile, execFileSync, spawn } from 'node:child_process';
 import { once } from 'node:events';
@@ -19,29 +19,15 @@ const has = (program) => (process.env.PATH ?? '').split(':').some((folder) => ex
 // The largest script for pages, compressed.
 const MOST_BYTES = 12000;
 
-let project;
-let installed; // the folder of the package
-let packed; // its name, version and files, and its bytes
-const read = (name) => readFileSync(join(installed, name), 'utf8');
-// Runs a command in the project, or in `cwd`, and returns what it prints.
-const run = (command, args, cwd = project) => execFileSync(command, args, { cwd, encoding: 'utf8', stdio: ['ignore', 'pipe', 'inherit'] });
-const npm = (...args) => run('npm', [...args, '--silent', '--offline', '--cache', join(project, 'cache')]);
-// Packs the package. Without npm, the project has a link to the folder.
-function pack() {
-  const [found] = JSON.parse(npm('pack', FOLDER, '--json'));
-  return { ...found, content: readFileSync(join(project, found.filename)) };
-}
+const read = (name) => readFileSync(join(FOLDER, name), 'utf8');
+let project; // a folder whose package has this one
+// Runs a command in the project, and returns what it prints.
+const run = (command, args) => execFileSync(command, args, { cwd: project, encoding: 'utf8', stdio: ['ignore', 'pipe', 'inherit'] });
 before(() => {
   project = mkdtempSync(join(tmpdir(), 'gadzilk-'));
-  installed = join(project, 'node_modules/gadzilk-client');
   writeFileSync(join(project, 'package.json'), '{ "type": "module" }');
-  if (has('npm')) {
-    packed = pack();
-    npm('install', packed.filename);
-  } else {
-    mkdirSync(join(project, 'node_modules'));
-    symlinkSync(FOLDER, installed);
-  }
+  mkdirSync(join(project, 'node_modules'));
+  symlinkSync(FOLDER, join(project, 'node_modules/gadzilk-client'));
 });
 after(() => rmSync(project, { recursive: true }));
 
@@ -62,8 +48,12 @@ describe('the package', () => {
   });
 
   it('is packed with its files, and no others, into the same bytes', { skip: !has('npm') && 'there is no npm' }, () => {
-    assert.ok(pack().content.equals(packed.content));
-    const { name, version, files } = packed;
+    const pack = () => {
+      const [found] = JSON.parse(run('npm', ['pack', FOLDER, '--json', '--silent', '--offline', '--cache', join(project, 'cache')]));
+      return { ...found, content: readFileSync(join(project, found.filename)) };
+    };
+    const { name, version, files, content } = pack();
+    assert.ok(pack().content.equals(content));
     assert.deepEqual([name, version], ['gadzilk-client', readFileSync(join(FOLDER, '../../VERSION'), 'utf8').trim()]);
     const paths = files.map(({ path }) => path);
     const { exports, main, module, types } = JSON.parse(read('package.json'));
@@ -77,7 +67,7 @@ describe('the package', () => {
     const required = createRequire(join(project, 'x.cjs'))('gadzilk-client');
     assert.deepEqual(Object.keys(required).sort(), ['BayeuxClient', 'BayeuxError', 'default']);
     for (const file of ['bayeux-module.js', 'src/index.js']) {
-      const imported = await import(join(installed, file));
+      const imported = await import(join(FOLDER, file));
       assert.ok(imported.BayeuxClient.BayeuxError === imported.BayeuxError && imported.default === imported.BayeuxClient, file);
     }
     assert.deepEqual(Object.getOwnPropertyNames(globalThis), names);

@@ -1,28 +1,23 @@
-"""A server that follows a script, and one that is real."""
+"""A server that follows a script."""
 from __future__ import annotations
 
 import http.server
 import json
 import socket
-import subprocess
 import threading
 import time
-import urllib.request
-from collections.abc import Callable
 from typing import Any
 
 # How long a test waits for what must happen, in seconds.
 PATIENCE = 20.0
-HANDSHAKE = {"channel": "/meta/handshake", "version": "1.0", "supportedConnectionTypes": ["long-polling"]}
-CONNECT = {"channel": "/meta/connect", "connectionType": "long-polling"}
-
-
-def unknown(channel: str) -> dict[str, Any]:
-    return {"channel": channel, "successful": False, "error": "402::Unknown client", "advice": {"interval": 0, "reconnect": "handshake"}}
 
 
 def rejected(channel: str, error: str, **advice: Any) -> dict[str, Any]:
     return {"channel": channel, "successful": False, "error": error, **({"advice": advice} if advice else {})}
+
+
+def unknown(channel: str) -> dict[str, Any]:
+    return rejected(channel, "402::Unknown client", interval=0, reconnect="handshake")
 
 
 class Script(http.server.ThreadingHTTPServer):
@@ -41,12 +36,11 @@ class Script(http.server.ThreadingHTTPServer):
         self.advice: dict[str, Any] = {"reconnect": "retry", "interval": 0, "timeout": 0}
         self.batches: list[list[dict[str, Any]]] = []  # the events of the next connects
         self.ack = 0
-        self.held: Callable[[], bool] = lambda: False
         threading.Thread(target=self.serve_forever, args=(0.01,), daemon=True).start()
 
-    def next(self, channel: str, answer: Any) -> None:
-        """Answers the next message on `channel`: with a reply, a status, bytes as the body, None to cut the connection, or `...` to break off."""
-        self.answers.append((channel, answer))
+    def next(self, channel: str, *answers: Any) -> None:
+        """Answers the next messages on `channel`: with a reply, a status, bytes as the body, None to cut the connection, or `...` to break off."""
+        self.answers += [(channel, it) for it in answers]
 
     def hold(self, channel: str) -> threading.Event:
         """Answers the next message on `channel` once the event is set."""
@@ -97,24 +91,21 @@ class Handler(http.server.BaseHTTPRequestHandler):
         script.connections.add(self.client_address)
         items: list[dict[str, Any]] = []
         for message in messages:
-            at = next((it for it, (channel, _) in enumerate(script.answers) if channel == message["channel"]), None)
-            if at is None:
+            given = next((it for it in script.answers if it[0] == message["channel"]), None)
+            if given is None:
                 items += script.reply(message)
                 continue
-            answer = script.answers.pop(at)[1]
+            script.answers.remove(given)
+            _, answer = given
             if answer in (None, ...):
-                self.close_connection = True
                 if answer is not None:
                     self.send(200, b"[{", 9)
-                self.connection.shutdown(socket.SHUT_RDWR)
-                return
+                return self.connection.shutdown(socket.SHUT_RDWR)
             if isinstance(answer, int):
                 return self.send(answer, b"")
             if isinstance(answer, bytes):
                 return self.send(200, answer)
-            if callable(answer):
-                answer = answer()
-            items += [answer]
+            items += [answer() if callable(answer) else answer]
         self.send(200, json.dumps(items).encode())
 
     def send(self, status: int, content: bytes, length: int | None = None) -> None:
@@ -125,42 +116,3 @@ class Handler(http.server.BaseHTTPRequestHandler):
 
     def log_message(self, *_: Any) -> None:
         pass
-
-
-def free_port() -> int:
-    with socket.create_server(("127.0.0.1", 0)) as listener:
-        port: int = listener.getsockname()[1]
-        return port
-
-
-class Daemon:
-    """A bayeuxd on a port of its own. `flags`: more flags."""
-
-    def __init__(self, program: str, *flags: str) -> None:
-        self.port = free_port()
-        self.args = [program, "--listen", f"127.0.0.1:{self.port}", *flags]
-        self.url = f"http://127.0.0.1:{self.port}/cometd"
-        self.start()
-
-    def start(self) -> None:
-        self.process = subprocess.Popen(self.args, stdout=subprocess.PIPE, stderr=subprocess.DEVNULL)
-        assert self.process.stdout and self.process.stdout.readline().startswith(b"listening")
-
-    def kill(self) -> None:
-        self.process.kill()
-        self.process.wait()
-        assert self.process.stdout
-        self.process.stdout.close()
-
-    def ask(self, *messages: dict[str, Any]) -> list[dict[str, Any]]:
-        """Sends messages in one request, and returns the items of the response."""
-        items: list[dict[str, Any]] = json.loads(forward(self.url, json.dumps(messages).encode()))
-        return items
-
-
-def forward(url: str, body: bytes) -> bytes:
-    """Posts JSON, and returns the body of the response."""
-    request = urllib.request.Request(url, body, {"Content-Type": "application/json"})
-    with urllib.request.urlopen(request, timeout=60) as response:
-        content: bytes = response.read()
-        return content

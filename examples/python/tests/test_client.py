@@ -7,7 +7,6 @@ import io
 import itertools
 import logging
 import re
-import threading
 from concurrent.futures import ThreadPoolExecutor
 from typing import Any
 
@@ -27,7 +26,7 @@ def take(count: int, client: Client, *patterns: str) -> list[Any]:
     """Returns the data of the next events."""
     listening = client.listen(*patterns or ("/a",))
     try:
-        return [it.data for it in itertools.islice(listening, count)]
+        return [next(listening).data for _ in range(count)]
     finally:
         listening.close()  # type: ignore[attr-defined]
 
@@ -118,12 +117,10 @@ class TestPublish:
         with pytest.raises(Rejected, match="400::Invalid channel") as caught:
             client.publish("/b", 1)
         assert (caught.value.number, script.sessions) == (400, 1)
-        for _ in range(2):
-            script.next("/b", unknown("/b"))
+        script.next("/b", *[unknown("/b")] * 2)
         assert client.publish_all([("/b", 2), ("/b", 3)]) == [None, None]
         assert (script.data("/b"), script.sessions) == ([[1], [2, 3], [2, 3]], 2)
-        for _ in range(2):
-            script.next("/b", unknown("/b"))
+        script.next("/b", *[unknown("/b")] * 2)
         with pytest.raises(Rejected, match="402"):
             client.publish("/b", 4)
         script.next("/meta/handshake", rejected("/meta/handshake", "503::Too many sessions", reconnect="handshake"))
@@ -148,7 +145,7 @@ class TestPublish:
         with ThreadPoolExecutor(8) as pool:
             list(pool.map(lambda number: [client.publish("/b", (number, it)) for it in range(50)], range(8)))
         found = [data for [data] in script.data("/b")]
-        assert sorted(found) == [[number, it] for number in range(8) for it in range(50)]
+        assert len(found) == 400
         assert all([it for it in found if it[0] == number] == [[number, it] for it in range(50)] for number in range(8))
         assert script.sessions == 1
 
@@ -165,8 +162,7 @@ class TestListen:
         listening = client.listen("/a")
         assert next(listening) == Event("/a", 1) == ("/a", 1)
         # The server sends the events of a response that is lost, or breaks off, again.
-        for answer in (None, ...):
-            script.next("/meta/connect", answer)
+        script.next("/meta/connect", None, ...)
         assert [next(listening).data for _ in range(3)] == [2, 3, 4]
         assert [it["ext"]["ack"] for it in script.messages("/meta/connect")] == [0, 1, 1, 1, 1, 2]
 
@@ -191,7 +187,8 @@ class TestListen:
             script.next("/meta/connect", unknown("/meta/connect"))
             script.batches = [events(2)]
             assert next(listening).data == 2
-        assert len(gaps) == 1 and begin <= gaps[0] <= datetime.datetime.now(datetime.timezone.utc)
+        [gap] = gaps
+        assert begin <= gap <= datetime.datetime.now(datetime.timezone.utc)
         assert [it["clientId"] for it in script.messages("/meta/subscribe")] == ["session 1", "session 2"]
         assert script.messages("/meta/connect")[-1]["ext"] == {"ack": 0}
 
@@ -213,8 +210,7 @@ class TestListen:
         assert [len(it["subscription"]) for it in script.messages("/meta/subscribe")] == [64, 64, 22]
 
     def test_patience_ends(self, script: Script) -> None:
-        for _ in range(1000):
-            script.next("/meta/handshake", rejected("/meta/handshake", "503::Too many sessions", reconnect="handshake"))
+        script.next("/meta/handshake", *[rejected("/meta/handshake", "503::Too many sessions", reconnect="handshake")] * 1000)
         with Client(script.url, min_pause=0.001, max_pause=0.01, patience=0.1) as client, pytest.raises(Rejected, match="503"):
             take(1, client)
 
@@ -222,8 +218,7 @@ class TestListen:
         client.min_pause, client.max_pause = 0.25, 10.0
         pauses: list[float] = []
         monkeypatch.setattr(client._closed, "wait", lambda seconds: pauses.append(seconds))
-        for _ in range(9):
-            script.next("/meta/handshake", 503)
+        script.next("/meta/handshake", *[503] * 9)
         script.batches = [events(1)]
         script.advice["interval"] = 2000
         assert take(1, client) == [1]
@@ -234,8 +229,7 @@ class TestListen:
         # After a connect that succeeds, the pauses begin anew, and the advised interval applies.
         pauses.clear()
         script.batches = [events(2), events(3)]
-        script.next("/meta/connect", 503)
-        script.next("/meta/connect", 503)
+        script.next("/meta/connect", 503, 503)
         listening = client.listen("/a")
         assert next(listening).data == 2
         script.next("/meta/connect", 503)
@@ -245,8 +239,7 @@ class TestListen:
         # A session that is lost shows that the server can be reached.
         pauses.clear()
         script.batches = [events(4)]
-        for answer in (503, 503, 503, unknown("/meta/connect")):
-            script.next("/meta/connect", answer)
+        script.next("/meta/connect", 503, 503, 503, unknown("/meta/connect"))
         assert next(listening).data == 4
         assert (pauses[0], pauses[4] <= 0.25) == (2.0, True)
 
@@ -261,29 +254,24 @@ class TestListen:
 
     def test_close_from_another_thread_ends_it(self, script: Script, client: Client) -> None:
         hold = script.hold("/meta/connect")
-        found: list[Any] = []
-        thread = threading.Thread(target=lambda: found.append(list(client.listen("/a"))))
-        thread.start()
-        script.wait("/meta/connect")
-        client.close()
-        thread.join(PATIENCE)
-        hold.set()
-        assert found == [[]]
+        with ThreadPoolExecutor() as pool:
+            listening = pool.submit(list, client.listen("/a"))
+            script.wait("/meta/connect")
+            client.close()
+            assert listening.result(PATIENCE / 2) == []
+            hold.set()
 
     def test_a_publish_that_finds_the_session_gone_ends_the_connect(self, script: Script) -> None:
-        hold, gaps = script.hold("/meta/connect"), threading.Event()
-        found: list[Any] = []
-        with Client(script.url, timeout=PATIENCE, min_pause=0.001, on_gap=lambda _: gaps.set()) as client:
-            thread = threading.Thread(target=lambda: found.append(next(client.listen("/a")).data))
-            thread.start()
+        hold, gaps = script.hold("/meta/connect"), []  # type: ignore[var-annotated]
+        with ThreadPoolExecutor() as pool, Client(script.url, timeout=PATIENCE, min_pause=0.001, on_gap=gaps.append) as client:
+            event = pool.submit(next, client.listen("/a"))
             script.wait("/meta/connect")
             script.next("/b", unknown("/b"))
             script.batches = [events(1)]
             client.publish("/b", 0)
-            thread.join(PATIENCE / 2)
-            in_time = [*found]
+            assert event.result(PATIENCE / 2).data == 1
             hold.set()
-        assert (in_time, gaps.is_set()) == ([1], True)
+        assert len(gaps) == 1
 
     def test_only_one_at_a_time(self, script: Script, client: Client) -> None:
         script.batches = [events(1)]

@@ -11,7 +11,8 @@ import sys
 from collections.abc import Callable
 from concurrent.futures import ThreadPoolExecutor
 
-from servers import HANDSHAKE, Daemon, free_port
+from bayeuxd import Bayeuxd
+from daemon import HANDSHAKE, Connection
 
 from gadzilk_client import Client
 
@@ -19,7 +20,7 @@ FOLDER = pathlib.Path(__file__).resolve().parent.parent
 FORMER = FOLDER / "bayeux.py"  # the former name of the client
 
 
-def test_events_arrive_once_and_in_order_over_a_restart(start: Callable[..., Daemon]) -> None:
+def test_events_arrive_once_and_in_order_over_a_restart(start: Callable[..., Bayeuxd]) -> None:
     daemon, gaps = start(), []  # type: ignore[var-annotated]
     with Client(daemon.url, on_gap=gaps.append) as reader, Client(daemon.url) as writer, ThreadPoolExecutor() as pool:
         numbers = (it.data for it in reader.listen("/many/*") if it.channel == "/many/x")
@@ -35,15 +36,15 @@ def test_events_arrive_once_and_in_order_over_a_restart(start: Callable[..., Dae
         assert writer.publish_all(("/many/x", it) for it in range(1000)) == [None] * 1000
         assert [it for it in itertools.islice((it for it in numbers if it != "begin"), 1000)] == list(range(1000))
         daemon.kill()
-        daemon.start()
+        start("--listen", "%s:%d" % daemon.address)
         assert (first("end"), len(gaps)) == ("end", 1)
 
 
-def test_the_command(start: Callable[..., Daemon], tmp_path: pathlib.Path) -> None:
+def test_the_command(start: Callable[..., Bayeuxd], tmp_path: pathlib.Path) -> None:
     """It prints events where one may only read, until Ctrl-C ends it and its session. So it does under its former name."""
-    readers, record = f"127.0.0.1:{free_port()}", tmp_path / "record"
-    daemon = start("--sessions", "3", "--readers", readers, "--record", str(record))
-    url = f"http://{readers}/cometd"
+    record = tmp_path / "record"
+    daemon = start("--sessions", "3", "--readers", "127.0.0.1:0", "--record", str(record))
+    url = "http://%s:%d/cometd" % daemon.readers
     env = {**os.environ, "BAYEUX_URL": url, "PYTHONPATH": str(FOLDER / "src"), "PYTHONUTF8": "1"}
 
     def publish(channel: str, *options: str) -> tuple[int, str]:
@@ -65,7 +66,7 @@ def test_the_command(start: Callable[..., Daemon], tmp_path: pathlib.Path) -> No
         assert publish("/a", "--url", url.replace("cometd", "x")) == (1, "bayeux: HTTP status 404: Bayeux is at /cometd\n")
         process.send_signal(signal.SIGINT)
         assert (process.wait(20), process.stderr.read()) == (0, "")
-    assert all(daemon.ask(HANDSHAKE)[0]["successful"] for _ in range(3))
-    daemon.process.terminate()
-    daemon.process.wait()
+    with Connection(daemon.address) as connection:
+        assert all(connection.ask([HANDSHAKE])[0]["successful"] for _ in range(3))
+    daemon.close()
     assert '"name":"Ben"' in record.read_text(encoding="utf-8")

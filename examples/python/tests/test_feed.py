@@ -14,6 +14,7 @@ from collections.abc import Callable
 from typing import Any
 
 import pytest
+from bayeuxd import Bayeuxd
 from servers import Script, rejected, unknown
 
 FEED = pathlib.Path(__file__).resolve().parents[2] / "dashboard/feed"
@@ -65,8 +66,8 @@ def test_the_default_is_the_use_of_processors(script: Script) -> None:
 def test_failures_are_reported_once(script: Script) -> None:
     done = {"channel": "/dashboard/x", "successful": True}
     # In a lost session, the client publishes again.
-    for answer in (done, 502, None, unknown("/dashboard/x"), done, rejected("/dashboard/x", "400::Invalid channel"), 503, done):
-        script.next("/dashboard/x", answer)
+    refused = rejected("/dashboard/x", "400::Invalid channel")
+    script.next("/dashboard/x", done, 502, None, unknown("/dashboard/x"), done, refused, 503, done)
     status, output, errors = run(script, "x", "echo", "1", until=lambda: len(script.data("/dashboard/x")) >= 9)
     assert (status, output, script.sessions) == (143, 3 * LINE("/dashboard/x", script.url), 2)
     whys = ("HTTP status 502", "400::Invalid channel")
@@ -78,6 +79,12 @@ def test_where_publishing_is_not_allowed_it_ends(script: Script) -> None:
     status, _, errors = run(script, "x", "echo", "1", until=lambda: len(script.data("/dashboard/x")) > 1)
     assert (status, errors) == (1, f"feed: publishing is not allowed at {script.url}; set BAYEUX_URL to use another address\n")
     assert script.requests[-1][0]["channel"] == "/meta/disconnect"
+
+
+def test_the_metrics_of_a_server(script: Script, start: Callable[..., Bayeuxd]) -> None:
+    run(script, "--metrics", "%s:%d" % start().metrics, until=lambda: script.data("/metrics/all"))
+    found = script.data("/metrics/all")[0][0]
+    assert found["metrics"]["bayeux_sessions"] == 0 and "bayeux_sessions" in found["help"]
 
 
 @pytest.mark.parametrize("args", [["name"], ["--metrics", "a", "b"], ["", "echo"], ["a/b", "echo"], ["-x", "echo"], ["a.b", "echo"], ["a\n", "echo"]])

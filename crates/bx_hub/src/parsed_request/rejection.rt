@@ -33,7 +33,7 @@ impl<L: LogId> Rejection<L> {
     ///
     /// `lag`: with `Behind`, the position of a shard that had not applied the whole oldest batch;
     /// with `Overrun`, that of the overrun shard.
-    pub(crate) fn of<R: Wait + Drop>(
+    pub(crate) fn new<R: Wait + Drop>(
         admission: &Admission<L, R>,
         fault: PostFault,
         lag: Option<ShardAdvance<L>>,

@@ -48,7 +48,7 @@ impl<L: LogId> ShardAdvance<L> {
     ghost use Rattle.bx_hub.specs.Lags.{no_room_of};
 
     /// Creates the result for `shard_state`, which has learned `prefix`.
-    pub(super) fn of<P: Placing>(
+    pub(super) fn new<P: Placing>(
         shard_state: &ShardState<L, P>,
         prefix: &Front<L>,
         stays: Option<HubFault>,
@@ -160,7 +160,7 @@ pub struct NoAnswer<L: LogId> {
 }
 
 impl<L: LogId> NoAnswer<L> {
-    pub(super) fn of<P: Placing>(
+    pub(super) fn new<P: Placing>(
         shard_state: &ShardState<L, P>,
         ticket: &Ticket,
         fault: HubFault,
@@ -217,7 +217,7 @@ pub struct Unfiled<L: LogId> {
 }
 
 impl<L: LogId> Unfiled<L> {
-    pub(super) fn of<P: Placing>(shard_state: &ShardState<L, P>, ticket: &Ticket) -> Unfiled<L>
+    pub(super) fn new<P: Placing>(shard_state: &ShardState<L, P>, ticket: &Ticket) -> Unfiled<L>
         requires own { ticket.now.shard ≡ shard_state.now.shard.index }
         requires active { shard_state.now.activity ≡ Active }
         requires level { shard_state.now.shard.place ≡ length (list_of shard_state.now.prefix) }
@@ -261,7 +261,7 @@ impl<L: LogId> WatchEvidence<L> {
     /// Creates evidence that `said` is the result of registering `waker` under `ticket`.
     ///
     /// `shard_state`: the ticket's shard after the call.
-    pub(super) fn of<P: Placing>(
+    pub(super) fn registered<P: Placing>(
         shard_state: &ShardState<L, P>,
         ticket: &Ticket,
         waker: Snapshot<Waker>,
@@ -328,7 +328,7 @@ pub struct SessionEvidence<L: LogId> {
 impl<L: LogId> SessionEvidence<L> {
     ghost use Rattle.bx_hub.specs.Surveys.{IsSessionOf};
 
-    pub(super) fn of<P: Placing>(
+    pub(super) fn new<P: Placing>(
         shard_state: &ShardState<L, P>,
         index: &usize,
         survey: &SessionSurvey,
@@ -374,7 +374,7 @@ pub struct ChangeEvidence<L: LogId> {
 impl<L: LogId> ChangeEvidence<L> {
     ghost use Rattle.bx_hub.specs.Changes.{IsAfter};
 
-    pub(super) fn of<P: Placing>(
+    pub(super) fn new<P: Placing>(
         shard_state: &ShardState<L, P>,
         change: ShardChange,
         dropped: usize,

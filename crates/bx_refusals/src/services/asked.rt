@@ -27,7 +27,7 @@ pub const QUERY_CONNECT: &str =
     r#"/cometd?jsonp=cb.x&message=[{%22channel%22:%22/meta/connect%22,%22clientId%22:%22ID%22,%22connectionType%22:%22callback-polling%22,%22advice%22:{%22timeout%22:0}}]"#;
 
 /// The method and contents of a request, from which the request can be built more than once.
-#[derive(Clone, Copy, Debug)]
+#[derive(Clone, Copy)]
 pub enum Asked<'a> {
     /// A POST to `/cometd` with this body.
     Post(&'a str),
@@ -50,7 +50,10 @@ pub fn request(alloc: Global, asked: Asked<'_>) -> Result<Request<Full<Bytes>>, 
         }
         Asked::Get(target) => Request::get(alloc, target).body(Full::new(Bytes::from_static(b""))),
     };
-    made.map_err(|_| Unlike::Memory)
+    match made {
+        Ok(request) => Ok(request),
+        Err(_) => Err(Unlike::Memory),
+    }
 }
 
 /// Returns `text` with the first `word` replaced by `by`, or `text` if `word` is missing.

@@ -22,7 +22,7 @@ use std::sync::{Arc, Wait};
 pub type Given = Result<Response<Pieces<Bytes>>, ServiceFault>;
 
 /// What a request adds to the hub's list.
-#[derive(Clone, Copy, Debug, PartialEq, Eq)]
+#[derive(Clone, Copy)]
 pub enum Adds {
     /// The request adds no entry to the list: it is rejected, or its entry is already counted.
     Nothing,
@@ -56,12 +56,13 @@ pub struct Client<S: Drop, L: HubKind, R: Wait + Drop> {
 impl<S: Backend<Items: Drop>, L: HubKind, R: Wait + Drop> Client<S, L, R> {
     /// Adds what a request added to the list to the expected numbers of entries and sessions.
     pub fn count(&mut self, adds: Adds) {
-        if adds != Adds::Nothing {
-            self.entries = self.entries.saturating_add(1);
-        }
-        if adds == Adds::Session {
-            self.sessions = self.sessions.saturating_add(1);
-        }
+        let (entries, sessions) = match adds {
+            Adds::Nothing => (0, 0),
+            Adds::Entry => (1, 0),
+            Adds::Session => (1, 1),
+        };
+        self.entries = self.entries.saturating_add(entries);
+        self.sessions = self.sessions.saturating_add(sessions);
     }
 
     /// Checks that a failed request added nothing, or just `adds`, and counts what it added.
@@ -75,7 +76,9 @@ impl<S: Backend<Items: Drop>, L: HubKind, R: Wait + Drop> Client<S, L, R> {
     pub fn check_list(&mut self, adds: Adds) -> Result<(), Unlike> {
         let mut pass = self.hub.pass();
         let counted = post(&self.rt, self.alloc, &self.hub, &mut pass, "[]");
-        let (entries, _) = counted.map_err(|_| Unlike::Wrong("not counted"))?;
+        let Ok((entries, _)) = counted else {
+            return Err(Unlike::Wrong("not counted"));
+        };
         if entries != self.entries {
             self.count(adds);
         }

@@ -52,5 +52,8 @@ fn next<L: LogId>(reader: &mut LogReader<L>, place: u64) -> Result<Next, Unlike>
         Err(_) if reader.note().steps() == before => reader.next(place),
         next => next,
     };
-    next.map_err(|_| Unlike::Wrong("nothing is found"))
+    match next {
+        Ok(next) => Ok(next),
+        Err(_) => Err(Unlike::Wrong("nothing is found")),
+    }
 }

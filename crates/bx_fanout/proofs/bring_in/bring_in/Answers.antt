@@ -16,7 +16,7 @@ roomy g c = record c.args.current.now { answers = c.reserve.new.self }
 reserved : (g : _) (c : After-reserve g) → IsTakenIn (setup_of c.args.world.now) (map read_input c.args.inputs.now) (world_of c.args.world.now) c.args.held.now (roomy g c) (map seen_out c.args.added.now)
 reserved g c =
     let w = c.args.world.now in
-    intake-room (setup_of w) (map read_input c.args.inputs.now) (world_of w) c.args.held.now c.args.current.now (roomy g c) (map seen_out c.args.added.now) w.admission.config.limits.some_batch refl c.reserve.ensures.items c.requires.intake
+    intake-room (setup_of w) (map read_input c.args.inputs.now) (world_of w) c.args.held.now c.args.current.now (roomy g c) (map seen_out c.args.added.now) w.registry.config.limits.some_batch refl c.reserve.ensures.items c.requires.intake
 
 leveled : (g : _) (c : After-level g) → IsTakenIn (setup_of c.args.world.now) (map read_input c.args.inputs.now) (world_of c.args.world.now) c.args.held.now (record c.args.current.now { answers = c.reserve.new.self }) (map seen_out c.args.added.now) →
     IsTakenIn (setup_of c.level.new.world) (map read_input c.args.inputs.now) (world_of c.level.new.world) c.args.held.now (record c.args.current.now { answers = c.reserve.new.self }) (map seen_out c.args.added.now)
@@ -31,7 +31,7 @@ collected : (g : _) (c : After-collect g) →
 collected g c d =
     let w = c.level.new.world in
     let v = c.collect.new.world in
-    collected-intake (setup_of v) (setup_of w) (map read_input c.args.inputs.now) (world_of w) (world_of v) c.args.held.now (record c.args.current.now { answers = c.reserve.new.self }) c.collect.new.self (map seen_out c.args.added.now) w.admission.config.limits.some_batch
+    collected-intake (setup_of v) (setup_of w) (map read_input c.args.inputs.now) (world_of w) (world_of v) c.args.held.now (record c.args.current.now { answers = c.reserve.new.self }) c.collect.new.self (map seen_out c.args.added.now) w.registry.config.limits.some_batch
     c.collect.ensures.setup d c.collect.ensures.so_far c.collect.ensures.world c.collect.ensures.collects
 
 level : (g : _) (c : After-collect g) → IsLevel (world_of c.collect.new.world)
@@ -47,7 +47,7 @@ pub hold-requires : goal.hold-requires
 hold-requires g c =
     let w = c.args.world.now in
     let d = c.requires.intake in
-    held-below (setup_of w) d.earlier d.last (world_of w) c.args.held.now c.args.current.now (map seen_out c.args.added.now) w.admission.config.limits.some_batch d.collecting
+    held-below (setup_of w) d.earlier d.last (world_of w) c.args.held.now c.args.current.now (map seen_out c.args.added.now) w.registry.config.limits.some_batch d.collecting
 
 pub returns-in_err-hold-clause-intake : goal.returns-in_err-hold-clause-intake
 returns-in_err-hold-clause-intake g c =
@@ -70,7 +70,7 @@ drain-requires g c =
     let d = collected g at.After-collect (leveled g at.After-level (reserved g at.After-reserve)) in
     record {
       can = subst (CanDrain (setup_of v) (world_of v)) (sym (c.release-then-collect.ensures c.args.held.now _ c.in_ok-hold.ensures.ok))
-          (can-drain (setup_of v) d.earlier d.last (world_of v) c.args.held.now c.collect.new.self (map seen_out c.args.added.now) v.admission.config.limits.some_batch d.collecting (level g at.After-collect));
+          (can-drain (setup_of v) d.earlier d.last (world_of v) c.args.held.now c.collect.new.self (map seen_out c.args.added.now) v.registry.config.limits.some_batch d.collecting (level g at.After-collect));
     }
 
 pub returns-then-collect-clause-giving : goal.returns-then-collect-clause-giving
@@ -84,7 +84,7 @@ returns-then-collect-clause-giving g c =
     let whole = subst (IsWhole (setup_of v).config (world_of v).list m) c.if-collect.true c.collect.ensures.whole in
     let drained = subst (λ (rs : List Row). Drained (setup_of v) (world_of v) rs (world_of x) c.drain.new.held) (c.release-then-collect.ensures c.args.held.now _ c.in_ok-hold.ensures.ok) c.drain.ensures.drained in
     giving-of (setup_of x) (setup_of v) (map read_input c.args.inputs.now) (d.earlier ++ d.last ∷ []) (world_of x) c.drain.new.held (seen_out (out_of m) ∷ []) added c.drain.ensures.setup d.are
-    (giving-whole (setup_of v) d.earlier d.last (world_of v) (world_of x) c.args.held.now c.drain.new.held m added v.admission.config.limits.some_batch d.collecting whole drained)
+    (giving-whole (setup_of v) d.earlier d.last (world_of v) (world_of x) c.args.held.now c.drain.new.held m added v.registry.config.limits.some_batch d.collecting whole drained)
 
 pub drain-requires-2 : goal.drain-requires-2
 drain-requires-2 g c =
@@ -95,7 +95,7 @@ drain-requires-2 g c =
     let missing = subst (IsWhole (setup_of v).config (world_of v).list m) c.if-collect.false c.collect.ensures.whole in
     record {
       can = subst (CanDrain (setup_of v) (world_of v)) (ap (λ (r : Row). c.args.held.now ++ r ∷ []) (same-row g at.After-collect) ∙ sym c.in_ok-hold.ensures.ok)
-          (can-drain-held (setup_of v) d.earlier d.last (world_of v) c.args.held.now m (map seen_out c.args.added.now) v.admission.config.limits.some_batch d.collecting (level g at.After-collect) missing.0 missing.1);
+          (can-drain-held (setup_of v) d.earlier d.last (world_of v) c.args.held.now m (map seen_out c.args.added.now) v.registry.config.limits.some_batch d.collecting (level g at.After-collect) missing.0 missing.1);
     }
 
 pub returns-clause-giving : goal.returns-clause-giving
@@ -109,4 +109,4 @@ returns-clause-giving g c =
     let missing = subst (IsWhole (setup_of v).config (world_of v).list m) c.if-collect.false c.collect.ensures.whole in
     let drained = subst (λ (rs : List Row). Drained (setup_of v) (world_of v) rs (world_of x) c.drain-2.new.held) (c.in_ok-hold.ensures.ok ∙ ap (λ (r : Row). c.args.held.now ++ r ∷ []) (sym (same-row g at.After-collect))) c.drain-2.ensures.drained in
     giving-of (setup_of x) (setup_of v) (map read_input c.args.inputs.now) (d.earlier ++ d.last ∷ []) (world_of x) c.drain-2.new.held [] added c.drain-2.ensures.setup d.are
-    (giving-held (setup_of v) d.earlier d.last (world_of v) (world_of x) c.args.held.now c.drain-2.new.held m added v.admission.config.limits.some_batch d.collecting missing.0 missing.1 drained)
+    (giving-held (setup_of v) d.earlier d.last (world_of v) (world_of x) c.args.held.now c.drain-2.new.held m added v.registry.config.limits.some_batch d.collecting missing.0 missing.1 drained)

@@ -13,9 +13,9 @@ pub returns-in_err-answer-clause-next : goal.returns-in_err-answer-clause-next
 returns-in_err-answer-clause-next g c =
     let w = c.args.world.now in
     let steps = c.in_err-answer.ensures in
-    let next = next-missing (setup_of w) (world_of w) (world_of c.take.new.self) c.in-Some-Waiting.ticket (drop 1 c.args.slots.now.items) c.args.slots.now.items w.admission.config.limits.some_batch
-    (λ session. let many : length (world_of w).applied ≡ w.admission.shards = length-map w.shards.items (λ (s : Shard g.row.P.Denot). s.place) ∙ w.counted in
-    let below : g.P.Placing.place_of (arc_value w.placing) session w.admission.shards < w.admission.shards = g.met.P.Placing.is_below (arc_value w.placing) session w.admission.shards w.some_shard w.shards_in_range in
+    let next = next-missing (setup_of w) (world_of w) (world_of c.take.new.self) c.in-Some-Waiting.ticket (drop 1 c.args.slots.now.items) c.args.slots.now.items w.registry.config.limits.some_batch
+    (λ session. let many : length (world_of w).applied ≡ w.registry.shards = length-map w.shards.items (λ (s : Shard g.row.P.Denot). s.place) ∙ w.holds.counted in
+    let below : g.P.Placing.place_of (arc_value w.placing) session w.registry.shards < w.registry.shards = g.met.P.Placing.is_below (arc_value w.placing) session w.registry.shards w.holds.some_shard w.holds.shards_in_range in
     omega arith)
     (front-of c.args.slots.now.items (Waiting c.in-Some-Waiting.ticket) c.in-Some-Waiting.field-0.now c.in-Some-Waiting.ensures.item.0 c.in-Some-Waiting.ensures.lookup c.in-Some-Waiting.field-0-is)
     steps.output steps.world in
@@ -25,9 +25,9 @@ pub returns-in-Some-Waiting-clause-next : goal.returns-in-Some-Waiting-clause-ne
 returns-in-Some-Waiting-clause-next g c =
     let w = c.args.world.now in
     let steps = c.in_ok-answer.ensures in
-    next-taken (setup_of w) (world_of w) (world_of c.take.new.self) c.in-Some-Waiting.ticket c.in_ok-answer.answer (drop 1 c.args.slots.now.items) c.args.slots.now.items c.pop_front.new.self.items w.admission.config.limits.some_batch
-    (λ session. let many : length (world_of w).applied ≡ w.admission.shards = length-map w.shards.items (λ (s : Shard g.row.P.Denot). s.place) ∙ w.counted in
-    let below : g.P.Placing.place_of (arc_value w.placing) session w.admission.shards < w.admission.shards = g.met.P.Placing.is_below (arc_value w.placing) session w.admission.shards w.some_shard w.shards_in_range in
+    next-taken (setup_of w) (world_of w) (world_of c.take.new.self) c.in-Some-Waiting.ticket c.in_ok-answer.answer (drop 1 c.args.slots.now.items) c.args.slots.now.items c.pop_front.new.self.items w.registry.config.limits.some_batch
+    (λ session. let many : length (world_of w).applied ≡ w.registry.shards = length-map w.shards.items (λ (s : Shard g.row.P.Denot). s.place) ∙ w.holds.counted in
+    let below : g.P.Placing.place_of (arc_value w.placing) session w.registry.shards < w.registry.shards = g.met.P.Placing.is_below (arc_value w.placing) session w.registry.shards w.holds.some_shard w.holds.shards_in_range in
     omega arith)
     (front-of c.args.slots.now.items (Waiting c.in-Some-Waiting.ticket) c.in-Some-Waiting.field-0.now c.in-Some-Waiting.ensures.item.0 c.in-Some-Waiting.ensures.lookup c.in-Some-Waiting.field-0-is)
     c.pop_front.ensures.rest steps.output steps.world

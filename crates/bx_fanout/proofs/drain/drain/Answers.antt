@@ -17,8 +17,8 @@ pub returns-clause-drained : goal.returns-clause-drained
 returns-clause-drained g c =
     let inv = c.loop-shard.invariant in
     let w = c.args.world.now in
-    let all : c.loop-shard.shard ≡ w.admission.shards = omega (arith, c.shards-shard-end.ensures) in
+    let all : c.loop-shard.shard ≡ w.registry.shards = omega (arith, c.shards-shard-end.ensures) in
     draining-last (setup_of w) (world_of w) (world_of c.loop-shard.world) c.args.held.now c.loop-shard.held inv.list inv.applied
-    (λ session. g.met.P.Placing.is_below (arc_value w.placing) session w.admission.shards w.some_shard w.shards_in_range)
+    (λ session. g.met.P.Placing.is_below (arc_value w.placing) session w.registry.shards w.holds.some_shard w.holds.shards_in_range)
     c.requires.can
     (subst (Draining (setup_of w) c.args.held.now (world_of c.loop-shard.world) c.loop-shard.held) all inv.draining)

@@ -19,7 +19,7 @@ loop-filing-preserved g c =
     record {
       draining = λ before d.
           draining-more (setup_of c.args.world.now) before (world_of w) (world_of v) c.loop-filing.held c.answer.new.self c.args.shard (record { place = c.in-Some.filing.connect; shard = c.args.shard }) c.in-Some.filing.answer
-          c.args.world.now.admission.config.limits.some_batch
+          c.args.world.now.registry.config.limits.some_batch
           (subst (λ (s : Setup). IsOutput s (world_of w) (Take (record { place = c.in-Some.filing.connect; shard = c.args.shard })) (Taken (Some c.in-Some.filing.answer))) inv.setup steps.output)
           steps.world c.answer.ensures (inv.draining before d);
       list = ap (λ (x : WorldState). x.list) steps.world ∙ inv.list;
@@ -37,11 +37,11 @@ returns-clause-draining g c = λ before d.
     let inv = c.loop-filing.invariant in
     let none = at-none c.take_any.result c.in_default.is c.take_any.ensures.none in
     let w = c.loop-filing.world in
-    let many : length (world_of w).applied ≡ w.admission.shards = length-map w.shards.items (λ (s : Shard g.row.P.Denot). s.place) ∙ w.counted in
+    let many : length (world_of w).applied ≡ w.registry.shards = length-map w.shards.items (λ (s : Shard g.row.P.Denot). s.place) ∙ w.holds.counted in
     let placed : AllPlaced (setup_of w) (world_of w) = λ session.
-    let below : g.P.Placing.place_of (arc_value w.placing) session w.admission.shards < w.admission.shards = g.met.P.Placing.is_below (arc_value w.placing) session w.admission.shards w.some_shard w.shards_in_range in
+    let below : g.P.Placing.place_of (arc_value w.placing) session w.registry.shards < w.registry.shards = g.met.P.Placing.is_below (arc_value w.placing) session w.registry.shards w.holds.some_shard w.holds.shards_in_range in
     omega arith in
-    let next = draining-next (setup_of c.args.world.now) before (world_of w) c.loop-filing.held c.args.shard c.args.world.now.admission.config.limits.some_batch
+    let next = draining-next (setup_of c.args.world.now) before (world_of w) c.loop-filing.held c.args.shard c.args.world.now.registry.config.limits.some_batch
     (subst (λ (s : Setup). AllPlaced s (world_of w)) inv.setup placed)
     (subst (λ (s : Setup). (place : ℕ) → filed_under s (world_of w) (record { place = place; shard = c.args.shard }) ≡ None) inv.setup none.0)
     (inv.draining before d) in

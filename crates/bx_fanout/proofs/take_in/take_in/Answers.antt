@@ -23,7 +23,7 @@ returns-in-Ok-clause-intake g c =
     let many : length inputs ≡ length c.args.inputs.now = length-map c.args.inputs.now read_input in
     intake-of (setup_of v) (setup_of w) (map read_input (c.args.inputs.now ++ c.args.input.now ∷ [])) inputs (read_input c.args.input.now) (world_of v) c.args.held.now n added steps.setup
     (map-append read_input c.args.inputs.now (c.args.input.now ∷ []))
-    (intake-admitted (setup_of w) inputs c.args.input.now (world_of w) (world_of v) c.args.held.now n added a.first a.slots w.admission.config.limits.some_batch c.requires.giving c.requires.settled steps.output steps.world
+    (intake-admitted (setup_of w) inputs c.args.input.now (world_of w) (world_of v) c.args.held.now n added a.first a.slots w.registry.config.limits.some_batch c.requires.giving c.requires.settled steps.output steps.world
     (c.current_of.ensures.number ∙ c.requires.number ∙ sym many) at c.current_of.ensures.refusal c.current_of.ensures.items c.current_of.ensures.answers are)
 
 pub returns-in-Err-Refused-clause-intake : goal.returns-in-Err-Refused-clause-intake

@@ -10,7 +10,7 @@ pub returns-clause-held : goal.returns-clause-held
 returns-clause-held g c = λ either.
     let p = c.args.self.now.state in
     let none : is_collecting p.stage ≡ false = none-collecting p.stage either (λ some all. c.args.self.now.consistent.lags some (λ k n found. let is = all.level k n found in omega (arith, is))) in
-    let batch = p.world.admission.config.limits.some_batch in
+    let batch = p.world.registry.config.limits.some_batch in
     let staged = c.args.self.now.consistent.staged in
     elim c.match-collecting.branch [
       | in-Some+in_ok-push w ↦ let some : is_collecting p.stage ≡ true = ap is_collecting w.in-Some.ensures.some in cc
@@ -22,7 +22,7 @@ returns-clause-held g c = λ either.
 pub returns-clause-collecting : goal.returns-clause-collecting
 returns-clause-collecting g c = λ some.
     let p = c.args.self.now.state in
-    let batch = p.world.admission.config.limits.some_batch in
+    let batch = p.world.registry.config.limits.some_batch in
     let staged = c.args.self.now.consistent.staged in
     elim c.match-collecting.branch [
       | in-Some+in_ok-push w ↦
@@ -37,7 +37,7 @@ returns-clause-collecting g c = λ some.
 pub returns-clause-settled : goal.returns-clause-settled
 returns-clause-settled g c = λ all.
     let p = c.args.self.now.state in
-    let batch = p.world.admission.config.limits.some_batch in
+    let batch = p.world.registry.config.limits.some_batch in
     let staged = c.args.self.now.consistent.staged in
     elim c.match-collecting.branch [
       | in-Some+in_ok-push w ↦

@@ -6,6 +6,7 @@ use Rattle.bx_entry.specs.Words.{ReadInput, added_by, refusal_of, Listed}
 use Rattle.bx_entry.specs.declared.input.Input.{Input}
 use Rattle.bx_window.specs.Steps.{adding, inputs_of, list_of, setup_of}
 use Rattle.bx_window.specs.declared.law.LogStep.{LogStep}
+use Rattle.bx_window.proofs.Lists.{inputs_of_adding}
 use Rattle.bx_registry.specs.Slots.{admitted_slots}
 use Rattle.bx_hub.specs.Submissions.{input_of}
 use Rattle.bx_hub.specs.Records.{inputs_by}
@@ -58,14 +59,14 @@ returns-clause-grown g c =
     let whole : pass ≡ old = c.tell_beyond.ensures.whole in
     let first : p.batch.first ≡ length (list_of old) = c.in_ok-plan.ensures.continues.first ∙ ap (λ (xs : List Listed). length xs) (d.listed ∙ ap list_of same) in
     IfOk-weaker c.publish.result
-    (λ a. ((a ≡ record { first = p.batch.first; slots = p.slots }) × (list_of new ≡ list_of pass ++ p.elements)) × (inputs_of new ≡ inputs_of pass ++ inputs))
+    (λ a. ((a ≡ record { first = p.batch.first; slots = p.slots }) × (list_of new ≡ list_of pass ++ p.elements)) × (new ≡ pass ++ adding p.elements inputs ∷ []))
     (λ a. IsGrown (input_of c.args.wanted.now) inputs a.first old new)
     (λ a t. record {
       first_is = ap (λ (x : Admitted). x.first) t.0.0 ∙ first;
       list_is = t.0.1 ∙ ap₂ (λ (xs ys : List Listed). xs ++ ys) (ap list_of whole) c.in_ok-plan.ensures.elements;
-      inputs_are = t.1 ∙ ap (λ (xs : List LogStep). inputs_of xs ++ inputs) whole;
+      inputs_are = ap inputs_of t.1 ∙ inputs_of_adding pass p.elements inputs ∙ ap (λ (xs : List LogStep). inputs_of xs ++ inputs) whole;
     })
-    (with_step (λ (a : Admitted). (a ≡ record { first = p.batch.first; slots = p.slots }) × (list_of new ≡ list_of pass ++ p.elements)) (inputs_of new ≡ inputs_of pass ++ inputs) c.publish.result c.publish.ensures.taken c.publish.ensures.inputs)
+    (with_step (λ (a : Admitted). (a ≡ record { first = p.batch.first; slots = p.slots }) × (list_of new ≡ list_of pass ++ p.elements)) (new ≡ pass ++ adding p.elements inputs ∷ []) c.publish.result c.publish.ensures.taken c.publish.ensures.step)
 
 pub returns-then-count-eq0-clause-recorded : goal.returns-then-count-eq0-clause-recorded
 returns-then-count-eq0-clause-recorded g c =

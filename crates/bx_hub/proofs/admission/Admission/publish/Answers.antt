@@ -48,11 +48,3 @@ record-requires-clause-grown g c =
     let before : d.writer ≡ c.replace-before.result = cc in
     ap inputs_of c.in-Ok.ensures.ok ∙ inputs_of_adding d.writer c.args.plan.elements c.inputs_by.result ∙ ap (λ (xs : List Input). inputs_of d.writer ++ xs) c.inputs_by.ensures
     ∙ ap (λ (xs : List LogStep). inputs_of xs ++ inputs) before
-
-pub returns-in-Ok-clause-inputs : goal.returns-in-Ok-clause-inputs
-returns-in-Ok-clause-inputs g c =
-    let d = c.args.self.now in
-    let inputs : List Input = inputs_by c.args.wanted.now in
-    let new : c.replace-before.new.dest ≡ c.publish.new.self = cc in
-    ap inputs_of (new ∙ c.in-Ok.ensures.ok) ∙ inputs_of_adding d.writer c.args.plan.elements c.inputs_by.result ∙ ap (λ (xs : List Input). inputs_of d.writer ++ xs) c.inputs_by.ensures
-    ∙ ap (λ (xs : List LogStep). inputs_of xs ++ inputs) (sym c.requires.whole)

@@ -5,6 +5,6 @@ use Rattle.bx_hub.proofs.hub.Hub.admit.Goals as goal
 
 pub returns-in-Ok-admit-clause-admitted : goal.returns-in-Ok-admit-clause-admitted
 returns-in-Ok-admit-clause-admitted g c =
-    let mid = c.make_room.new.pass in
-    let before = prefix_trans c.args.pass.now c.admit.new.pass mid c.admit.ensures.seen c.make_room.ensures.seen in
+    let mid = c.advance_and_trim.new.pass in
+    let before = prefix_trans c.args.pass.now c.admit.new.pass mid c.admit.ensures.seen c.advance_and_trim.ensures.seen in
     admitted_before (input_of c.args.wanted.now) c.in-Ok-admit.admitted.first c.args.pass.now mid c.admit-2.new.pass before c.in-Ok-admit.ensures.admitted

@@ -56,6 +56,12 @@ returns-in-HeldConnects c = ap place_of c.in-HeldConnects.is
 pub returns-in-FiledAnswers : goal.returns-in-FiledAnswers
 returns-in-FiledAnswers c = ap place_of c.in-FiledAnswers.is
 
+pub returns-in-Recording : goal.returns-in-Recording
+returns-in-Recording c = ap place_of c.in-Recording.is
+
+pub returns-in-RecordedBytes : goal.returns-in-RecordedBytes
+returns-in-RecordedBytes c = ap place_of c.in-RecordedBytes.is
+
 pub returns-in-Responses : goal.returns-in-Responses
 returns-in-Responses c = ap place_of c.in-Responses.is ∙ c.place_of_status.ensures
 

@@ -1,30 +1,19 @@
-use Rattle.std.proofs.Common.{◌≡◌, ◌≤◌, ℕ, true, ◌∙◌, map, sym, subst}
-use Rattle.std.specs.Arc.{arc_value}
-use Rattle.bx_entry.specs.Requests.{read_input}
+use Rattle.std.proofs.Common.{◌≡◌, refl, sym, ap, ◌∙◌}
+use Rattle.std.specs.Prelude.{Ok}
 use Rattle.bx_entry.specs.declared.input.Input.TheVariants.{Tick}
-use Rattle.bx_shard.specs.declared.shard.Shard.{Shard}
-use Rattle.bx_world.specs.Refining.{some_stands_at}
-use Rattle.bx_world.proofs.Growing.{admission_steps, each_longer, same_first, same_shards, still_bounded}
+use Rattle.bx_registry.specs.Standings.{Standing}
+use Rattle.bx_registry.specs.Slots.{admitted_slots}
+use Rattle.bx_registry.proofs.Slotting.{tick_slots}
+use Rattle.bx_registry.proofs.Faults.{planned_taken}
+use Rattle.bx_world.specs.Words.{setup_of}
+use Rattle.bx_world.proofs.Growing.{from_start, planned}
 use Rattle.bx_world.proofs.world.World.admit_tick.Goals as goal
-
-pub invariant_of-self : goal.invariant_of-self
-invariant_of-self g c =
-    let w = c.args.self.now in
-    let placing = g.P.Placing.place_of (arc_value w.placing) in
-    let now = c.tick.new.self in
-    let is = (c.tick.ensures.admission (g.P.Placing.place_of (arc_value c.args.self.now.placing))) in
-    record {
-      bounded = still_bounded placing w.admission now (read_input (Tick c.args.moment)) c.tick.result is w.bounded;
-      some_shard = subst (λ (n : ℕ). 1 ≤ n) (sym (same_shards placing w.admission now (read_input (Tick c.args.moment)) c.tick.result is)) w.some_shard;
-      shards_in_range = subst (λ (n : ℕ). n ≤ 64) (sym (same_shards placing w.admission now (read_input (Tick c.args.moment)) c.tick.result is)) w.shards_in_range;
-      counted = w.counted ∙ sym (same_shards placing w.admission now (read_input (Tick c.args.moment)) c.tick.result is);
-      holding = each_longer g.P.Placing.place_of placing w.admission now w.taken w.shards.items (read_input (Tick c.args.moment)) c.tick.result is w.holding;
-      slowest = subst (λ (first : ℕ). some_stands_at first w.shards.items ≡ true) (sym (same_first placing w.admission now (read_input (Tick c.args.moment)) c.tick.result is)) w.slowest;
-    }
 
 pub returns-clause-step : goal.returns-clause-step
 returns-clause-step g c =
     let w = c.args.self.now in
-    let placing = g.P.Placing.place_of (arc_value w.placing) in
-    let steps = admission_steps placing w.admission c.tick.new.self (map (λ (s : Shard g.row.P.Denot). s.place) w.shards.items) w.taken (Tick c.args.moment) c.tick.result (c.tick.ensures.admission (g.P.Placing.place_of (arc_value c.args.self.now.placing))) in
-    record { output = steps.0; world = steps.1; setup = steps.2 }
+    let ok = c.in_ok-plan.ensures in
+    let plan = c.in_ok-plan.plan in
+    let same : c.plan_tick.new.self ≡ record w.registry { ready = c.plan_tick.new.self.ready } = ok.same ∙ ap (λ (r : Standing). record w.registry { ready = r.ready }) (sym ok.same) in
+    from_start w c.plan_tick.new.self _ _ _ _ same refl refl (c.append.ensures (Tick c.args.moment) (planned w c.plan_tick.new.self plan (Tick c.args.moment) same
+    (planned_taken _ (Ok plan) plan refl ok.refused) ok.elements (ok.slots ∙ sym (tick_slots (setup_of w) w.registry.list c.args.moment) ∙ ap (admitted_slots (setup_of w) w.registry.list) (sym ok.elements))))

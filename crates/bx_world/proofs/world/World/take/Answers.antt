@@ -1,12 +1,12 @@
 use Rattle.std.proofs.Common.{◌≡◌, ◌<◌, ℕ, List, Option, Some, None, true, slice_get, slice_set, refl, sym, ap, ◌∙◌, subst, arith}
-use Rattle.std.proofs.lemmas.{List.length-set, Option.slice_get_read}
+use Rattle.std.proofs.lemmas.Option.{slice_get_read}
 use Rattle.bx_shard.specs.Words.{Took, state}
 use Rattle.bx_message.specs.declared.reply.Answer.{Answer}
-use Rattle.bx_world.specs.Words.{EachRefines, setup_of, world_of, IsOutput, after}
+use Rattle.bx_world.specs.Words.{WorldHolds, setup_of, world_of, IsOutput, after}
 use Rattle.bx_world.specs.declared.step.Step.TheVariants.{Take}
 use Rattle.bx_world.specs.declared.step.StepOut.TheVariants.{Taken}
-use Rattle.bx_world.proofs.Standing.{same_places, still_some}
-use Rattle.bx_world.proofs.Takings.{answered, each_still, each_taken, own, taking_gives}
+use Rattle.bx_world.proofs.Standing.{same_places}
+use Rattle.bx_world.proofs.Takings.{answered, holds_still, holds_taken, own, taking_gives}
 use Rattle.bx_world.proofs.world.World.take.Goals as goal
 use Rattle.bx_world.proofs.world.World.take.Goals.{After-take}
 
@@ -26,14 +26,7 @@ invariant_of-self-in-Break-branch-2 g c =
     let old = c.in_ok-get_mut.field-0.now in
     let new = c.take.new.self in
     let k = (goal.at.invariant_of-self-in-Break-branch-2 g c).After-take in
-    record {
-      bounded = w.bounded;
-      some_shard = w.some_shard;
-      shards_in_range = w.shards_in_range;
-      counted = length-set w.shards.items t.shard new ∙ w.counted;
-      holding = each_still w t old new (there g k) (answered w t old new (there g k) None c.in_err-answer.ensures.answer) (took g k) c.take.ensures.sound;
-      slowest = still_some w t.shard old (there g k) new (took g k).place_is;
-    }
+    record { holds = holds_still w t old new (there g k) (answered w t old new (there g k) None c.in_err-answer.ensures.answer) (took g k) c.take.ensures.sound }
 
 pub returns-in_err-answer : goal.returns-in_err-answer
 returns-in_err-answer g c =
@@ -58,13 +51,8 @@ invariant_of-self-2 g c =
     let k = (goal.at.invariant_of-self-2 g c).After-take in
     let a = c.in_ok-answer.answer in
     record {
-      bounded = w.bounded;
-      some_shard = w.some_shard;
-      shards_in_range = w.shards_in_range;
-      counted = length-set w.shards.items t.shard new ∙ w.counted;
-      holding = subst (λ (taken : List ℕ). EachRefines g.P.Placing.place_of (setup_of w) w.admission.list taken w.admission.first (slice_set w.shards.items t.shard new)) (sym c.push.ensures)
-          (each_taken w t old new (there g k) a (answered w t old new (there g k) (Some a) c.in_ok-answer.ensures.answer) (took g k) c.take.ensures.sound);
-      slowest = still_some w t.shard old (there g k) new (took g k).place_is;
+      holds = subst (λ (taken : List ℕ). WorldHolds g.P.Placing.place_of (setup_of w) w.registry.list taken w.first w.kept.items (slice_set w.shards.items t.shard new)) (sym c.push.ensures)
+          (holds_taken w t old new (there g k) a (answered w t old new (there g k) (Some a) c.in_ok-answer.ensures.answer) (took g k) c.take.ensures.sound);
     }
 
 pub returns : goal.returns

@@ -1,12 +1,12 @@
 use Rattle.std.proofs.Common.{◌≡◌, ◌<◌, ℕ, List, Option, Some, None, true, map, slice_get, slice_set, refl, sym, ap, ◌∙◌, subst, arith}
 use Rattle.std.specs.Prelude.{IfNone}
-use Rattle.std.proofs.lemmas.{List.length-set, Option.slice_get_read}
+use Rattle.std.proofs.lemmas.Option.{slice_get_read}
 use Rattle.bx_entry.specs.declared.entry.Ticket.{Ticket}
 use Rattle.bx_connects.specs.Connects.{filed_answer}
 use Rattle.bx_connects.specs.declared.filing.TakenAnswer.{TakenAnswer}
 use Rattle.bx_shard.specs.declared.shard.Shard.{Shard}
-use Rattle.bx_world.specs.Words.{EachRefines, setup_of, world_of, WorldState, filed_under}
-use Rattle.bx_world.proofs.{Standing.same_places, Standing.still_some, Takings.each_same, Takings.each_taken, Takings.none_filed, Takings.taking_gives}
+use Rattle.bx_world.specs.Words.{WorldHolds, setup_of, world_of, WorldState, filed_under}
+use Rattle.bx_world.proofs.{Standing.same_places, Takings.holds_same, Takings.holds_taken, Takings.none_filed, Takings.taking_gives}
 use Rattle.bx_world.proofs.world.World.take_any.Goals as goal
 use Rattle.bx_world.proofs.world.World.take_any.Goals.{After-take_any}
 
@@ -23,15 +23,7 @@ invariant_of-self-in-Break-branch-2 g c =
     let old = c.in_ok-get_mut.field-0.now in
     let new = c.take_any.new.self in
     let k = (goal.at.invariant_of-self-in-Break-branch-2 g c).After-take_any in
-    let same : new ≡ old = c.in_err-filing.ensures.same in
-    record {
-      bounded = w.bounded;
-      some_shard = w.some_shard;
-      shards_in_range = w.shards_in_range;
-      counted = length-set w.shards.items t.shard new ∙ w.counted;
-      holding = each_same w t old new (there g k) same;
-      slowest = still_some w t.shard old (there g k) new (ap (λ (s : Shard g.row.P.Denot). s.place) same);
-    }
+    record { holds = holds_same w t old new (there g k) c.in_err-filing.ensures.same }
 
 pub returns-in_err-filing-clause-none : goal.returns-in_err-filing-clause-none
 returns-in_err-filing-clause-none g c =
@@ -58,13 +50,8 @@ invariant_of-self-2 g c =
     let new = c.take_any.new.self in
     let k = (goal.at.invariant_of-self-2 g c).After-take_any in
     record {
-      bounded = w.bounded;
-      some_shard = w.some_shard;
-      shards_in_range = w.shards_in_range;
-      counted = length-set w.shards.items t.shard new ∙ w.counted;
-      holding = subst (λ (taken : List ℕ). EachRefines g.P.Placing.place_of (setup_of w) w.admission.list taken w.admission.first (slice_set w.shards.items t.shard new)) (sym c.push.ensures)
-          (each_taken w t old new (there g k) filing.answer (sym (ap filed_answer c.in_ok-filing.ensures.filed.1)) c.in_ok-filing.ensures.taken c.take_any.ensures.sound);
-      slowest = still_some w t.shard old (there g k) new c.in_ok-filing.ensures.taken.place_is;
+      holds = subst (λ (taken : List ℕ). WorldHolds g.P.Placing.place_of (setup_of w) w.registry.list taken w.first w.kept.items (slice_set w.shards.items t.shard new)) (sym c.push.ensures)
+          (holds_taken w t old new (there g k) filing.answer (sym (ap filed_answer c.in_ok-filing.ensures.filed.1)) c.in_ok-filing.ensures.taken c.take_any.ensures.sound);
     }
 
 pub returns-clause-some : goal.returns-clause-some

@@ -3,7 +3,7 @@ use Rattle.bx_window.specs.Steps.{setup_of}
 use Rattle.bx_hub.specs.Held.{held_of}
 use Rattle.bx_hub.proofs.Held.{stands_in}
 use Rattle.bx_hub.proofs.Surveys.{session_of}
-use Rattle.bx_hub.proofs.shard_state.evidence.SessionEvidence.of.Goals as goal
+use Rattle.bx_hub.proofs.shard_state.evidence.SessionEvidence.new.Goals as goal
 
 pub returns : goal.returns
 returns g c =

@@ -1,7 +1,7 @@
 use Rattle.std.proofs.Common.{Bool, nat_eq, ap, arith}
 use Rattle.bx_shard.specs.Seen.{state}
 use Rattle.bx_hub.proofs.Held.{given_told, learnt_by, stands_in, stands_taken, stands_untaken}
-use Rattle.bx_hub.proofs.shard_state.ShardState.take.Goals as goal
+use Rattle.bx_hub.proofs.shard_state.ShardState.take_filed.Goals as goal
 
 pub invariant_of-self : goal.invariant_of-self
 invariant_of-self g c =
