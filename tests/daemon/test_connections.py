@@ -3,14 +3,14 @@ import errno
 import json
 import os
 import resource
-import select
+import selectors
 import signal
 import socket
 import struct
 
 import pytest
 
-from base import wait_until
+from base import readable, wait_until
 from daemon import CONNECT, MOST_MESSAGES, OWN_PAGES, SlowReader, check_serves, expect_status, get, open_session, post, publish_to
 from metrics import OPEN, OPENED, SERVED, ask_for
 
@@ -42,7 +42,7 @@ def test_many_clients_that_connect_at_once_are_served(daemon, clock):
         os.kill(server.process.pid, signal.SIGCONT)
     for it in sockets:
         it.settimeout(60)
-        assert select.select([], [it], [], 60)[1], "a connection is not accepted"
+        assert readable(it, seconds=60, event=selectors.EVENT_WRITE), "a connection is not accepted"
         it.sendall(post(b"[]"))
     assert all(it.recv(1 << 10).startswith(b"HTTP/1.1 200 ") for it in sockets)
     server.expect({OPEN: len(sockets), OPENED: len(sockets)})

@@ -1,10 +1,9 @@
 """The end of a daemon: at the end of standard input, and after the last of its connections."""
 import itertools
-import select
 
 import pytest
 
-from base import wait_until
+from base import readable, wait_until
 from daemon import Connection, ConnectionEnded, expect_events, expect_status, expect_success, get, open_session, post, publish, send_connect
 from daemon import subscribe
 from documented import expect_documented
@@ -58,7 +57,7 @@ def test_held_connects_get_503_and_no_connection_is_accepted(daemon, client, clo
         expect_events(last.response().items(), [{"channel": "/last", "data": 1}])
         last.socket.close()
     held = [it for it, _ in held]
-    assert not select.select([it.socket for it in held], [], [], 0)[0], "answered early"
+    assert not readable(*(it.socket for it in held)), "answered early"
     server.process.stdin.close()
     assert [it.response().status for it in held] == [503] * len(held)
     assert not is_served(server.readers) and not is_served(server.address)

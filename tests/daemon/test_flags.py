@@ -2,12 +2,11 @@
 import json
 import os
 import re
-import select
 import subprocess
 
 import pytest
 
-from base import TIMEOUT_SECONDS, limit_file_size, read, wait_until
+from base import TIMEOUT_SECONDS, limit_file_size, read, readable, wait_until
 from chacha import drawn
 from daemon import HANDSHAKE, SEED, expect_error, expect_events, expect_status, expect_success, get, open_session, poll, post, publish
 from daemon import subscribe
@@ -69,7 +68,7 @@ def name_of(case):
 def test_log_has_the_settings(program, flags, changed, tmp_path):
     how = {"stdin": subprocess.DEVNULL, "stdout": subprocess.DEVNULL, "stderr": subprocess.PIPE, "text": True, "cwd": tmp_path}
     with subprocess.Popen([program, *flags], **how) as process:
-        line = process.stderr.readline() if select.select([process.stderr], [], [], TIMEOUT_SECONDS)[0] else ""
+        line = process.stderr.readline() if readable(process.stderr, seconds=TIMEOUT_SECONDS) else ""
         process.kill()
     assert dict(re.findall(r"(\w+)=(\S+)", line)) == {**DEFAULTS, **changed}
 

@@ -7,14 +7,13 @@ import hashlib
 import json
 import random
 import re
-import select
 import stat
 import threading
 import urllib.parse
 
 import pytest
 
-from base import has_compiler, wait_until
+from base import has_compiler, readable, wait_until
 from daemon import CONNECT, FORM, HANDSHAKE, Connection, check_serves, get, post
 from recording import Check, read_record
 
@@ -160,7 +159,7 @@ class Client(threading.Thread):
 
     def take(self):
         """Reads the response to the held connect, if it has arrived."""
-        if not self.held or not select.select([self.connects.socket], [], [], 0)[0]:
+        if not self.held or not readable(self.connects.socket):
             return
         response, self.held = self.keep(self.held, self.connects.response()), None
         if response.status == 200 and not response.body.startswith(CALLBACK):

@@ -1,10 +1,9 @@
 """The limits of packaging/nginx/location.conf for each client, and that no response fills the disk."""
 import contextlib
-import select
 import socket
 
 import pytest
-from base import TIMEOUT_SECONDS, wait_until
+from base import TIMEOUT_SECONDS, readable, wait_until
 from nginx import Nginx, ask_over
 
 # A request may pause for an hour.
@@ -50,7 +49,7 @@ def test_short_requests_are_spared(server, recipe) -> None:
         assert ask_over(connection, body=LONG).text == "[]"
         waiting.request("POST", "/cometd", LONG, JSON)
         assert {ask_over(connection, body=SHORT).text for _ in range(101)} == {"[]"}
-        assert not select.select([waiting.sock], [], [], 0)[0]
+        assert not readable(waiting.sock)
     log = nginx.folder / "var/log/nginx/access.log"
     lines = wait_until("the log has all requests", lambda: (it := log.read_text(encoding="utf-8").splitlines())[102:] and it)
     assert sorted(it.rpartition(" ")[2] for it in lines) == ["DELAYED", *["PASSED"] * 102]
@@ -64,7 +63,7 @@ def test_requests_above_the_burst_are_rejected(server, recipe) -> None:
         for it in crowd:
             it.request("POST", "/cometd", LONG, JSON)
         while len(statuses) < 2:
-            ready = [it for it in crowd if it.sock and select.select([it.sock], [], [], 0.01)[0]]
+            ready = [it for it in crowd if it.sock and readable(it.sock, seconds=0.01)]
             statuses |= {it.getresponse().status for it in ready}
             crowd = [it for it in crowd if it not in ready]
         assert statuses == {200, 429} and len(crowd) >= 200

@@ -4,6 +4,7 @@ import functools
 import os
 import pathlib
 import resource
+import selectors
 import shutil
 import signal
 import socket
@@ -54,6 +55,17 @@ def limit_file_size(size):
     """Limits files to `size` bytes, in a process that is about to start a program. A write then fails."""
     signal.signal(signal.SIGXFSZ, signal.SIG_IGN)
     resource.setrlimit(resource.RLIMIT_FSIZE, (size, size))
+
+
+def readable(*files, seconds=0.0, event=selectors.EVENT_READ):
+    """Returns those of `files` that can be read, or have another `event`, after a wait of at most `seconds` for the first.
+
+    Without an end to the wait if `seconds` is `None`. A descriptor may have any number (`select.select` takes those below 1,024).
+    """
+    with selectors.DefaultSelector() as selector:
+        for it in files:
+            selector.register(it, event)
+        return [it.fileobj for it, _ in selector.select(seconds)]
 
 
 def wait_until(what, condition, seconds=TIMEOUT_SECONDS, pause=0.02):

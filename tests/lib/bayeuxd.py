@@ -2,11 +2,10 @@
 import contextlib
 import functools
 import re
-import select
 import subprocess
 
 import metrics
-from base import TIMEOUT_SECONDS, end, wait_until
+from base import TIMEOUT_SECONDS, end, readable, wait_until
 from daemon import Daemon
 
 
@@ -33,7 +32,7 @@ class Bayeuxd(Daemon):
 
     def wait(self):
         """Waits until the daemon listens and all its threads have started, and reads its address."""
-        assert select.select([self.process.stdout], [], [], TIMEOUT_SECONDS)[0], "the daemon does not listen"
+        assert readable(self.process.stdout, seconds=TIMEOUT_SECONDS), "the daemon does not listen"
         super().wait()
         self.wait_for_rest()
 

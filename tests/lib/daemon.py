@@ -8,14 +8,13 @@ import os
 import pathlib
 import re
 import resource
-import select
 import socket
 import struct
 import termios
 import time
 import urllib.parse
 
-from base import TIMEOUT_SECONDS, end, wait_until
+from base import TIMEOUT_SECONDS, end, readable, wait_until
 
 # The seed of the daemons. No two bytes are equal, so that a byte read at a wrong place is noticed.
 SEED = bytes(range(1, 33)).hex()
@@ -208,7 +207,7 @@ class Connection:
 
     def renew(self):
         """Opens the connection again if the daemon has ended an idle one. No response may be outstanding."""
-        if select.select([self.socket], [], [], 0)[0]:
+        if readable(self.socket):
             self.socket.close()
             self.open()
 

@@ -2,13 +2,12 @@
 from __future__ import annotations
 
 import contextlib
-import select
 import socket
 import socketserver
 import threading
 from typing import Any, Iterator
 
-from base import TIMEOUT_SECONDS
+from base import TIMEOUT_SECONDS, readable
 
 
 class Relay(socketserver.ThreadingTCPServer):
@@ -43,7 +42,7 @@ class Relay(socketserver.ThreadingTCPServer):
 
     def copy(self, client: socket.socket, upstream: socket.socket) -> bool:
         """Copies what has arrived. Returns whether the connection continues."""
-        for side in select.select((client, upstream), [], [])[0]:
+        for side in readable(client, upstream, seconds=None):
             data = side.recv(1 << 16)
             if side is upstream and self.loses_responses:
                 self.lost += 1
