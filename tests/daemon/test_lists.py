@@ -54,13 +54,14 @@ def test_lists_show_what_clients_did_and_no_client_ids(daemon, client):
     send_connect(client(server), sessions[2])
     wait_until("a session holds a connect", lambda: any(it["held"] for it in sessions_of(server)))
     text = ask_for(server.metrics, get(b"", b"/sessions")).body.decode()
-    assert not [it for it in sessions if it["clientId"] in text]
+    assert text.isascii() and not [it for it in sessions if it["clientId"] in text]
     found = sorted(sessions_of(server), key=lambda it: it["number"])
     assert all(0 <= it.pop("age_seconds") <= time.monotonic() - start for it in found)
     assert [it.pop("number") for it in found] == [number_of(it) for it in sessions]
     assert found == LISTED
     channels = [{"pattern": "/chat/*", "subscriptions": 2}, {"pattern": QUOTED, "subscriptions": 1}]
     assert read_list(server.metrics, b"/channels") == channels
+    assert ask_for(server.metrics, get(b"", b"/channels")).body.isascii()
 
 
 def test_lists_have_the_sessions_of_all_shards(daemon, client):

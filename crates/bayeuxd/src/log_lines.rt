@@ -63,7 +63,7 @@ fn is_journal<R: Env + Files + AllocGlobal>(rt: &R) -> bool {
 pub struct LogLines<R> {
     rt: R,
     alloc: Global,
-    form: LineForm,
+    pub form: LineForm,
 }
 
 impl<R> LogLines<R> {

@@ -20,7 +20,7 @@ use bx_settings::{LogLevel, Seed, Settings, draw_seed, parse_args, read_flags, r
 use end::signal_at_eof;
 use futures::channel::oneshot;
 use futures::channel::oneshot::{Receiver, Sender};
-use log::{LevelFilter, Logged, info};
+use log::{LevelFilter, Logged, error, info};
 use log_lines::{LineForm, LogLines};
 use metrics::{MetricsListener, process_values};
 use recorder::{NewRecordFile, make_record};
@@ -99,6 +99,7 @@ fn main(host: HostRuntime) -> ExitCode {
         listening,
         metrics,
         process: move || process_values(&host),
+        max_files: process_values(&host).max_files,
         readers_publish: settings.readers_publish,
         arguments: parts.arguments,
         record_file,
@@ -134,7 +135,7 @@ fn parts_of<'a>(rt: &Host, settings: &Settings<'a>) -> Result<Parts<'a>, ExitCod
         Err(error) => {
             let exit = refused_at(rt, NO_SEED, seed_name(settings.seed), &error);
             if error.kind() == io::ErrorKind::InvalidData {
-                let _ = rt.eprintln(SEED_FORM);
+                print(rt, SEED_FORM);
             }
             return Err(exit);
         }
@@ -165,6 +166,7 @@ fn arguments_of(settings: &Settings<'_>, seed: [u8; 32]) -> ServeSettings {
     ServeSettings {
         config: settings.config,
         body: settings.body,
+        messages: settings.messages,
         transports: if settings.callback_polling {
             Transports::All
         } else {
@@ -216,7 +218,7 @@ fn record_of(
         Err(error) => {
             let exit = refused_at(rt, CANNOT_RECORD, path, &error);
             if error.kind() == io::ErrorKind::AlreadyExists {
-                let _ = rt.eprintln(RECORD_EXISTS);
+                print(rt, RECORD_EXISTS);
             }
             Err(exit)
         }
@@ -261,10 +263,15 @@ fn args(rt: &HostRuntime) -> io::Result<Vec<String>> {
 fn read_args(rt: &HostRuntime) -> Result<Vec<String>, ExitCode> {
     match args(rt) {
         Ok(args) => Ok(args),
-        Err(error) if error.kind() == io::ErrorKind::OutOfMemory => Err(failed(rt, OUT_OF_MEMORY)),
-        Err(_) => {
-            let _ = rt.eprintln(USAGE);
-            Err(ExitCode::from(2))
+        Err(error) => {
+            let is_full = error.kind() == io::ErrorKind::OutOfMemory;
+            let (text, status) = if is_full {
+                (OUT_OF_MEMORY, 1)
+            } else {
+                (USAGE, 2)
+            };
+            let _ = rt.eprintln(text);
+            Err(ExitCode::from(status))
         }
     }
 }
@@ -292,9 +299,10 @@ fn settings_of<'a>(
     }
 }
 
+// Returns `true` unless the first argument can be an address, which has a colon.
 fn are_flags(args: &[String]) -> bool {
     match args.first() {
-        Some(first) => first.as_bytes().starts_with(b"-"),
+        Some(first) => first.as_bytes().starts_with(b"-") || !first.contains(":"),
         None => false,
     }
 }
@@ -355,7 +363,17 @@ fn failed_by(rt: &Host, error: &io::Error, why: &str) -> ExitCode {
     }
 }
 
-fn failed<R: Eprint>(rt: &R, why: &str) -> ExitCode {
-    let _ = rt.eprintln(why);
+fn failed(rt: &Host, why: &str) -> ExitCode {
+    print(rt, why);
     ExitCode::FAILURE
+}
+
+// Prints `text` to standard error, as an object if the log has objects. The line `CANNOT_LISTEN` is
+// always the same.
+fn print(rt: &Host, text: &str) {
+    if rt.sink().form == LineForm::Json && text != CANNOT_LISTEN {
+        error!(rt; target: "bayeuxd", "{text}");
+    } else {
+        let _ = rt.eprintln(text);
+    }
 }

@@ -12,7 +12,7 @@ use bx_service::Clock;
 use log::{Log, info};
 use std::alloc::{AllocGlobal, Global};
 use std::io::{Read, Write};
-use std::net::{Net, SocketAddr, TcpListener, TcpStream};
+use std::net::{IpAddr, Net, SocketAddr, TcpListener, TcpStream};
 use std::rt::Files;
 use std::sync::{Arc, Wait};
 use std::time::{Duration, Instant};
@@ -20,6 +20,9 @@ use std::{fs, io, thread, time};
 
 // Milliseconds for a request's head, and for a write to make progress. Policy of this server.
 const PATIENCE: u64 = 2000;
+
+// The fewest milliseconds for the first byte of a request. Policy of this server.
+const LEAST_PATIENCE: u64 = 125;
 
 // Milliseconds after a failed accept, for example without a free file descriptor. Policy of this
 // server.
@@ -76,7 +79,8 @@ where
     /// Answers requests at `listener` until the program ends.
     ///
     /// Answers one request on each connection, one connection at a time. A request gets no response
-    /// if its head takes too long, a system call fails or memory runs out.
+    /// if its head takes too long, a system call fails or memory runs out. After each connection
+    /// that sends nothing, the next one has half the time for its first byte.
     ///
     /// # Blocking
     ///
@@ -84,6 +88,7 @@ where
     pub fn answer_all(&self, listener: &MetricsListener)
         requires { P.IsAlwaysCallable self.now.process }
     {
+        let mut patience = PATIENCE;
         for stream in listener.listener.incoming() {
             let Ok(stream) = stream else {
                 thread::sleep(&self.rt, Duration::from_millis(PAUSE));
@@ -92,7 +97,12 @@ where
             if let Ok(passed) = self.clock.start.elapsed(&self.rt) {
                 self.counts.set(Metric::Uptime, passed.as_secs());
             }
-            let _ = self.answer(stream);
+            patience = if is_silent(&stream, patience) {
+                LEAST_PATIENCE.max(patience / 2)
+            } else {
+                let _ = self.answer(stream);
+                PATIENCE
+            };
         }
     }
 
@@ -104,7 +114,7 @@ where
         let rt = &self.rt;
         let length = read_head(rt, &mut stream, &mut head)?;
         let (alloc, shards) = (rt.alloc(), self.settings.config.shards);
-        let asked = MetricsRequest::of(&head[..length]);
+        let asked = asked_of(&head[..length]);
         let page = match asked {
             MetricsRequest::StatusPage => Vec::from_slice(alloc, STATUS_PAGE.as_bytes())?,
             MetricsRequest::Metrics => {
@@ -115,9 +125,10 @@ where
                 sessions_text(rt, alloc, &*self.hub, shards, self.clock.now())?
             }
             MetricsRequest::Channels => channels_text(rt, alloc, &*self.hub, shards)?,
-            MetricsRequest::Health | MetricsRequest::Other | MetricsRequest::NoGet => {
-                Vec::new(alloc)
-            }
+            MetricsRequest::Health
+            | MetricsRequest::Misdirected
+            | MetricsRequest::Other
+            | MetricsRequest::NoGet => Vec::new(alloc),
         };
         let health = self.counts.health(self.clock.now());
         let text = response_text(alloc, asked, health, page.as_slice())?;
@@ -177,6 +188,39 @@ fn read_head<R: time::Clock>(rt: &R, stream: &mut TcpStream, head: &mut [u8]) ->
         }
     }
     Ok(length)
+}
+
+// Returns what a request asks for. Its page or list is `Misdirected` if the field `Host` is no
+// address: a page of another site whose name leads to this server could read it in a browser.
+fn asked_of(head: &[u8]) -> MetricsRequest {
+    let asked = MetricsRequest::of(head);
+    let has_secrets = matches!(
+        asked,
+        MetricsRequest::StatusPage | MetricsRequest::Sessions | MetricsRequest::Channels
+    );
+    let mut lines = str::from_utf8(head).unwrap_or("").split("\r\n");
+    match lines.find_map(host_in) {
+        Some(host) if has_secrets && !is_address(host) => MetricsRequest::Misdirected,
+        _ => asked,
+    }
+}
+
+// Returns the value of a line of a head if this is the field `Host`.
+fn host_in(line: &str) -> Option<&str> {
+    let (name, value) = line.split_once(":")?;
+    name.eq_ignore_ascii_case("host").then_some(value.trim())
+}
+
+// Returns `true` if `host` is an IP address or `localhost`, with or without a port.
+fn is_address(host: &str) -> bool {
+    let name = host.rsplit_once(":").map_or(host, |(name, _)| name);
+    name == "localhost" || host.parse::<IpAddr>().is_ok() || host.parse::<SocketAddr>().is_ok()
+}
+
+// Returns `true` if no byte arrives within `patience` milliseconds.
+fn is_silent(stream: &TcpStream, patience: u64) -> bool {
+    let wait = stream.set_read_timeout(Some(Duration::from_millis(patience)));
+    wait.is_ok() && stream.peek(&mut [0]).is_err()
 }
 
 fn is_whole(head: &[u8]) -> bool {

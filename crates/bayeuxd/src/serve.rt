@@ -43,6 +43,8 @@ use tokio::runtime::Runtime;
 pub struct ServeSettings {
     pub config: Config,
     pub body: BodyLimit,
+    /// The greatest number of messages in a request.
+    pub messages: usize,
     pub transports: Transports,
     /// The seed for nonces.
     pub seed: [u8; 32],
@@ -58,6 +60,7 @@ impl ServeSettings {
             version: VERSION,
             config: self.config,
             body: self.body,
+            messages: self.messages,
         }
     }
 
@@ -144,6 +147,8 @@ pub struct Server<R, F, P> {
     pub metrics: Option<MetricsListener>,
     /// Returns what the metrics show of this process.
     pub process: P,
+    /// The limit of file descriptors, if it is known.
+    pub max_files: Option<u64>,
     /// The patterns of the broadcast channels that the read-only listener allows.
     pub readers_publish: Vec<Pattern>,
     pub arguments: ServeSettings,
@@ -211,6 +216,7 @@ where
             listening,
             metrics,
             process,
+            max_files,
             readers_publish,
             arguments,
             record_file,
@@ -223,6 +229,7 @@ where
         } = listening;
         let ServeSettings { config, seed, .. } = arguments;
         let hub = Hub::<ServerKind<L>, R>::new(rt.alloc(), rt, opened, config, placing, OpenGate)?;
+        let hub = hub.with_most_messages(arguments.messages);
         let shared = SharedParts::new(rt, hub, SinceStart { rt, start }, seed, counts)?;
         if let Some(listener) = metrics {
             shared.start_metrics(arguments, process, listener)?;
@@ -230,7 +237,7 @@ where
         // The recorder starts before anything is appended to the list, such as the first tick.
         let recorder = Recorder::start(rt, &shared.hub, record_file)?;
         let (first, other) = shared.endpoints(listener, readers, readers_publish, &recorder)?;
-        let ticker = shared.start_ticker()?;
+        let ticker = shared.start_ticker(max_files)?;
         arguments.limit_shutdown(&mut runtime);
         let end = shared.close_on(shutdown)?;
         counts.set_listens(true);
@@ -401,13 +408,14 @@ where
     L: LogId + Send + Sync + 'static,
     R: Wait + Threads + Clock + AllocGlobal + Log + Sync + Send + Copy + Drop + 'static,
 {
-    fn start_ticker(&self) -> io::Result<Ticker> {
+    fn start_ticker(&self, max_files: Option<u64>) -> io::Result<Ticker> {
         Ticker::start(TickerParts {
             rt: self.rt,
             hub: Arc::try_clone(&self.hub)?,
             clock: self.clock,
             counts: Arc::try_clone(&self.counts)?,
             refusals: self.refusals.try_clone()?,
+            max_files,
         })
     }
 

@@ -74,6 +74,7 @@ impl<'s, 'a> Source for SettingsPairs<'s, 'a> {
             }
         }
         pair(to, "body", settings.body.get())?;
+        pair(to, "messages", settings.messages)?;
         pair(to, "ride", config.ride)?;
         pair(to, "anonymous", config.anonymous)?;
         pair(to, "callback_polling", settings.callback_polling)?;

@@ -7,7 +7,7 @@ use bx_hub::{Hub, HubKind, Pass, ShardSurvey, Tick};
 use bx_metrics::{Counts, Metric};
 use bx_service::Clock as _;
 use bx_window::LogId;
-use log::Log;
+use log::{Log, warn};
 use std::alloc::{AllocGlobal, Global};
 use std::collections::VecDeque;
 use std::sync::atomic::{AtomicBool, Ordering};
@@ -29,6 +29,10 @@ const KEPT_IN_A_CROWD: usize = 10;
 // Ticks between the log lines for rejected requests and overflows: a second. Policy of this server.
 const TELLING: u64 = 10;
 
+// How many file descriptors may be in use beside those of connections. If no more than these are
+// left, the log has a warning. Policy of this server.
+const OTHER_FILES: u64 = 16;
+
 /// What the thread that posts ticks uses.
 #[derive(Drop)]
 pub struct TickerParts<L: HubKind, R: Wait + Drop> {
@@ -38,6 +42,8 @@ pub struct TickerParts<L: HubKind, R: Wait + Drop> {
     pub clock: SinceStart<R>,
     pub counts: Arc<Counts, Global>,
     pub refusals: ListenerRefusals<R>,
+    /// The limit of file descriptors, if it is known.
+    pub max_files: Option<u64>,
 }
 
 /// The thread that posts ticks.
@@ -51,7 +57,8 @@ impl Ticker {
     /// Starts to post a tick every 100 ms.
     ///
     /// The thread counts the ticks and copies the hub's state to `counts`. Once a second, it logs
-    /// the refusals of both listeners, the sessions that overflowed, and the rejected handshakes.
+    /// the refusals of both listeners, the sessions that overflowed, the rejected handshakes, and
+    /// whether connections need almost all file descriptors.
     /// It drops filed answers that are not taken within a minute, or within a second while more
     /// are filed than sessions are live.
     ///
@@ -93,6 +100,7 @@ where
         clock,
         counts,
         refusals,
+        max_files,
     } = parts;
     let mut pass = hub.pass();
     let mut places = VecDeque::new(rt.alloc());
@@ -105,6 +113,7 @@ where
             refusals.log_new();
             overflows.log_new(rt, &**counts);
             rejected.log_new(rt, &**counts);
+            log_files(rt, &**counts, *max_files);
         }
         if is_over {
             break;
@@ -130,6 +139,16 @@ where
         if let Some(before) = last_before(&mut places, kept) {
             let swept = hub.sweep(rt, before).dropped();
             counts.add(Metric::SweptAnswers, swept as u64);
+        }
+    }
+}
+
+// Warns if connections leave only few of `max_files` descriptors. Without one, they wait.
+fn log_files<R: Log>(rt: &R, counts: &Counts, max_files: Option<u64>) {
+    let connections = counts.get(Metric::OpenConnections);
+    if let Some(limit) = max_files {
+        if connections.saturating_add(OTHER_FILES) >= limit {
+            warn!(rt; target: "bayeuxd", connections, limit; "few file descriptors are free");
         }
     }
 }

@@ -24,12 +24,12 @@ use Rattle.bx_window.specs.Places as places
 use Rattle.bx_window.specs.Steps.{list_of, setup_of}
 use Rattle.bx_window.specs.declared.law.LogStep.{LogStep}
 use Rattle.bx_hub.specs.Faults.{of_admission}
-use Rattle.bx_hub.specs.Posts.{AreSlotsAt, IsAdmittedAt, IsReadable, IsRefused, IsUnpublished, IsWhole}
+use Rattle.bx_hub.specs.Posts.{AreSlotsAt, IsAdmittedAt, IsReadable, IsRefused, IsRejected, IsUnpublished, IsWhole}
 use Rattle.bx_hub.specs.Submissions.{input_of}
 use Rattle.bx_hub.specs.declared.submission.Submission.{Submission}
 use Rattle.bx_hub.specs.declared.submission.Submission.TheVariants as submission
 use Rattle.bx_hub.specs.declared.fault.PostFault.{PostFault}
-use Rattle.bx_hub.specs.declared.fault.PostFault.TheVariants.{Refused, Closed, Behind, Memory}
+use Rattle.bx_hub.specs.declared.fault.PostFault.TheVariants.{Refused, TooManyMessages, Closed, Behind, Memory}
 use Rattle.bx_hub.proofs.Lists.{list_length}
 
 -- ---- Planned batches
@@ -158,6 +158,10 @@ unpublished_result input list writer unchanged whole new (Ok x) allowed is some 
 unpublished_result input list writer unchanged whole new (Err e) allowed is some same u =
     let there : list ≡ list_of new = is ∙ ap list_of (sym (same.1)) in
     unpublished input e new (subst (λ (xs : List Listed). refusal_of (length xs) input ≡ None) there allowed) some u
+
+pub rejected : (most : ℕ) (input : ReadInput) (f : PostFault) (front : List LogStep) → IsRefused input f front → IsRejected most input f front
+rejected most input TooManyMessages front r = absurd r
+rejected most input _ front r = r
 
 pub input_readable : (s : Submission) → IsReadable (input_of s)
 input_readable (submission.Request r) = tt

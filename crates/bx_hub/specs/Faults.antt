@@ -10,7 +10,7 @@ use Rattle.bx_window.specs.Steps.{begin_of}
 use Rattle.bx_hub.specs.declared.{activity.Activity.Activity, fault.HubFault.HubFault, fault.Lagging.Lagging, fault.PostFault.PostFault}
 use Rattle.bx_hub.specs.declared.activity.Activity.TheVariants.{Active, Paused, Closed}
 use Rattle.bx_hub.specs.declared.fault.HubFault.TheVariants as stops
-use Rattle.bx_hub.specs.declared.fault.PostFault.TheVariants.{Refused, Behind, Overrun, WrongShard, Memory}
+use Rattle.bx_hub.specs.declared.fault.PostFault.TheVariants.{Refused, TooManyMessages, Behind, Overrun, WrongShard, Memory}
 use Rattle.bx_hub.specs.declared.fault.PostFault.TheVariants as faults
 
 -- The fault of a post or tick for a fault of planning its entries: the same refusal, or `Memory`.
@@ -21,15 +21,18 @@ of_admission admissions.Memory = Memory
 -- The reason of a fault of a post in words: that of its refusal, or its own.
 abbrev pub fault_reason : PostFault → List ℕ
 fault_reason (Refused refusal) = refusal_reason refusal
+fault_reason TooManyMessages = codes "more messages in one request than the server accepts"
 fault_reason faults.Closed = codes "the server is shutting down"
 fault_reason (Behind first) = codes "the window is full because a shard lags"
 fault_reason (Overrun shard place) = codes "internal error: the window lacks entries that a shard needs"
 fault_reason (WrongShard shard found) = codes "internal error: the lock of a shard guards another shard"
 fault_reason Memory = codes "out of memory"
 
--- The HTTP status of a request that was not admitted: that of its refusal, or 503 for other faults.
+-- The HTTP status of a request that was not admitted: that of its refusal, 400 for too many
+-- messages, or 503 for other faults.
 abbrev pub fault_status : PostFault → Status
 fault_status (Refused refusal) = refusal_status refusal
+fault_status TooManyMessages = statuses.BadRequest
 fault_status _ = statuses.Unavailable
 
 -- The number of stopped shards, for any fault: the sum of the counts.

@@ -2,7 +2,7 @@
 use Rattle.std.specs.Prelude.{ℕ, ◌≡◌, ◌≢◌, ◌+◌, ◌<◌, ◌≤◌, ◌⊎◌, ◌^◌, ◌++◌, List, length, take, drop, Some, None}
 use mathlib.Core.List.{IsPrefix}
 use Rattle.bx_registry.specs.Slots.{admitted_slots}
-use Rattle.bx_entry.specs.Inputs.{ReadInput, Unread, added_by, refusal_of}
+use Rattle.bx_entry.specs.Inputs.{ReadInput, Request, Unread, added_by, refusal_of}
 use Rattle.bx_entry.specs.declared.entry.Slot.{Slot}
 use Rattle.bx_entry.specs.declared.input.Input.{Input}
 use Rattle.bx_entry.specs.declared.input.Refusal.TheVariants as refusals
@@ -10,7 +10,7 @@ use Rattle.bx_entry.specs.Placings.{Setup}
 use Rattle.bx_window.specs.declared.law.LogStep.{LogStep}
 use Rattle.bx_window.specs.Steps.{list_of, firsts_of, begin_of, below, inputs_of}
 use Rattle.bx_hub.specs.declared.fault.PostFault.{PostFault}
-use Rattle.bx_hub.specs.declared.fault.PostFault.TheVariants.{Refused, Closed, Behind, Overrun, WrongShard, Memory}
+use Rattle.bx_hub.specs.declared.fault.PostFault.TheVariants.{Refused, TooManyMessages, Closed, Behind, Overrun, WrongShard, Memory}
 use Rattle.bx_window.specs.declared.writer.TheConstants.{MAX_BATCHES}
 
 -- A call admitted `input` at place `first`, and extended its pass from `old` to `new`.
@@ -70,12 +70,18 @@ abbrev pub IsReadable : ReadInput → Type 0
 IsReadable (Unread refusal) = ⊥
 IsReadable input = Unit {0}
 
--- The fault can be why `input` was not admitted, if the pass has then seen `front`. `Refused`: the
+-- The number of messages of a request. 0 for a tick, and for a request that cannot be read.
+abbrev pub messages_in : ReadInput → ℕ
+messages_in (Request moment nonce messages) = length messages
+messages_in _ = 0
+
+-- The fault can be why admission rejected `input`, if the pass has then seen `front`. `Refused`: the
 -- rules reject `input` after the list of `front`, with this refusal. `Ended` can also
 -- mean that the log of publishes and trims is too long. `Behind`: `input` could be appended, but
 -- the window is full and begins at `first`. `Overrun`: the window was full, and now begins after
 -- `place`. `WrongShard`: the window was full, and the lock of `shard` guards another shard.
--- `Closed`: the documents are messages that the listener allows. `Memory` claims nothing.
+-- `Closed`: the documents are messages that the listener allows. `Memory` claims nothing. Admission
+-- does not count messages.
 abbrev pub IsRefused : ReadInput → PostFault → List LogStep → Type 0
 IsRefused input (Refused refusals.Ended) front = (refusal_of (length (list_of front)) input ≡ Some refusals.Ended) ⊎ (2 ^ 62 ≤ length front)
 IsRefused input (Refused refusal) front = refusal_of (length (list_of front)) input ≡ Some refusal
@@ -84,6 +90,13 @@ IsRefused input (Behind first) front = IsFullFor input first front
 IsRefused input (Overrun shard place) front = WasFullFor input front × (place < begin_of front)
 IsRefused input (WrongShard shard found) front = WasFullFor input front × (found ≢ shard)
 IsRefused input Memory front = Unit {0}
+IsRefused input TooManyMessages front = ⊥
+
+-- The fault can be why a hub that accepts up to `most` messages in a request rejected `input`:
+-- `input` has more of them, or admission rejected it.
+abbrev pub IsRejected : ℕ → ReadInput → PostFault → List LogStep → Type 0
+IsRejected most input TooManyMessages front = most < messages_in input
+IsRejected most input fault front = IsRefused input fault front
 
 -- The fault can be the reason why a planned batch is not published at the end of `front`. `Ended`:
 -- the log has no room for another step. `Behind`: the window is full and begins at `first`.

@@ -91,6 +91,8 @@ impl Lagging {
 pub enum PostFault {
     /// A rule rejects it. `Ended` also means that the window's log has no room for another step.
     Refused(Refusal),
+    /// The request has more messages than the hub accepts.
+    TooManyMessages,
     /// The hub is closed.
     Closed,
     /// The window is full, and some shard has not applied all of its oldest batch, which begins at
@@ -110,6 +112,7 @@ impl PostFault {
     {
         match self {
             PostFault::Refused(refusal) => refusal.reason(),
+            PostFault::TooManyMessages => "more messages in one request than the server accepts",
             PostFault::Closed => "the server is shutting down",
             PostFault::Behind { .. } => "the window is full because a shard lags",
             PostFault::Overrun { .. } =>
@@ -126,6 +129,7 @@ impl PostFault {
     {
         match self {
             PostFault::Refused(refusal) => refusal.status(),
+            PostFault::TooManyMessages => Status::BadRequest,
             PostFault::Closed
             | PostFault::Behind { .. }
             | PostFault::Overrun { .. }

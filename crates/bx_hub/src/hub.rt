@@ -22,6 +22,7 @@ use crate::submission::{Submission, Tick};
 use crate::walk::AdvanceReport;
 use bx_advice::Config;
 use bx_connects::Watch;
+use bx_cut::MAX_MESSAGES;
 use bx_entry::{Admitted, Arrival, Ticket};
 use bx_message::Answer;
 use bx_shard::Wakers;
@@ -56,6 +57,8 @@ pub struct Hub<L: HubKind, R: Wait + Drop> {
     gate: L::Gate,
     admission: AdmissionLock<L, R>,
     shards: Vec<Mutex<ShardState<L, L::Placing>>>,
+    // How many messages a request has at most.
+    most_messages: usize,
     ghost placed: { L.Placing.place_of (arc_value placing) ≡ L.placing },
     ghost started: { admission.start ≡ [] },
     ghost counted: { length shards.items ≡ L.config.shards },
@@ -67,14 +70,16 @@ impl<L: HubKind, R: Wait + Drop> Hub<L, R> {
     ghost use Rattle.bx_hub.specs.Lags.{IsLagging, no_room_of};
     ghost use Rattle.bx_hub.specs.Submissions.{input_of};
     ghost use Rattle.bx_hub.specs.Records.{EndsIn, inputs_by, inputs_from};
-    ghost use Rattle.bx_hub.specs.Posts.{AreSlotsAt, IsAdmittedAt, IsRefused, IsTrimmedTo, IsWithoutRoom};
+    ghost use Rattle.bx_hub.specs.Posts.{AreSlotsAt, IsAdmittedAt, IsRefused, IsRejected, IsTrimmedTo, IsWithoutRoom, messages_in};
+    ghost use Rattle.bx_cut.specs.declared.document.TheConstants.{MAX_MESSAGES};
     ghost use Rattle.bx_hub.specs.Waking.{put_of};
     ghost use Rattle.bx_connects.specs.declared.watch.Watch.TheVariants as watches;
     ghost use Rattle.bx_hub.specs.Watches.{IsBack, IsToldOf};
 
     /// Creates a hub with an empty list and `config.shards` shards.
     ///
-    /// `rt`: the right to wait, which the window's writer keeps.
+    /// It accepts requests with up to [`MAX_MESSAGES`] (256) messages. `rt`: the right to wait, which
+    /// the window's writer keeps.
     pub fn new(
         alloc: Global,
         rt: R,
@@ -90,6 +95,7 @@ impl<L: HubKind, R: Wait + Drop> Hub<L, R> {
         ensures empty { IfOk result (λ hub. hub.admission.start ≡ []) }
         ensures parts { IfOk result (λ hub. (arc_value hub.placing ≡ arc_value placing) × (hub.gate ≡ gate)) }
         ensures shards { IfOk result (λ hub. length hub.shards.items ≡ config.shards) }
+        ensures messages { IfOk result (λ hub. hub.most_messages ≡ MAX_MESSAGES) }
     {
         let (writer, readers) = log_pair::<L, R>(alloc, rt, opened, config.shards)?;
         let mut shards = Vec::new(alloc);
@@ -109,7 +115,18 @@ impl<L: HubKind, R: Wait + Drop> Hub<L, R> {
             gate,
             admission,
             shards,
+            most_messages: MAX_MESSAGES,
         })
+    }
+
+    /// Returns the hub, which from now on rejects requests with more than `most` messages.
+    pub fn with_most_messages(self, most: usize) -> Hub<L, R>
+        ensures most { result.most_messages ≡ most }
+        ensures rest { (result.placing ≡ self.placing) × (result.gate ≡ self.gate) × (result.admission ≡ self.admission) × (result.shards ≡ self.shards) }
+    {
+        let mut hub = self;
+        hub.most_messages = most;
+        hub
     }
 
     /// Returns a pass that has seen no entries.
@@ -130,6 +147,7 @@ impl<L: HubKind, R: Wait + Drop> Hub<L, R> {
     ///
     /// - `Refused`, from `NotJson` to `Forbidden`: the documents are not at most 256 messages, or
     ///   the read-only listener forbids them.
+    /// - `TooManyMessages`: they are more than the hub accepts.
     /// - `Closed`: [`close`](Self::close) was called.
     /// - `Refused(BadMoment)`, `Refused(Ended)`: the moment is too large; the list or the window's
     ///   log is too long.
@@ -167,13 +185,14 @@ impl<L: HubKind, R: Wait + Drop> Hub<L, R> {
         ensures admitted { IfOk result (λ p. IsAdmittedAt (read_input (inputs.Post arrival)) p.first pass.old pass.new) }
         ensures slots { IfOk result (λ p. AreSlotsAt (setup_of L.config L.placing) (read_input (inputs.Post arrival))
             p.first pass.new p.slots) }
+        ensures few { OnOk result (messages_in (read_input (inputs.Post arrival)) ≤ self.now.most_messages) }
         ensures back { IfErr result (λ r. r.0 ≡ arrival) }
-        ensures refused { IfErr result (λ r. IsRefused (read_input (inputs.Post arrival)) r.1.fault pass.new) }
+        ensures refused { IfErr result (λ r. IsRejected self.now.most_messages (read_input (inputs.Post arrival)) r.1.fault pass.new) }
         ensures lags { IfErr result (λ r. IsLagging r.1.fault r.1.lag pass.new) }
         ensures behind { IfOk result (λ p. IsOfAll L.config.shards pass.new p.advanced) }
         ensures inputs { OnOk result (EndsIn (inputs_of pass.new) (inputs_from (inputs.Post arrival))) }
     {
-        let request = ParsedRequest::parse(alloc, arrival)?;
+        let request = ParsedRequest::parse(alloc, self.most_messages, arrival)?;
         let wanted = Submission::Request(&request);
         let Admitted { first, slots } = match self.admit(rt, alloc, pass, &wanted) {
             Ok(admitted) => admitted,

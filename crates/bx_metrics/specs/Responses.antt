@@ -4,7 +4,7 @@ use Rattle.std.specs.{List.starts_with}
 use Rattle.bx_metrics.specs.declared.response.ServerHealth.{ServerHealth}
 use Rattle.bx_metrics.specs.declared.response.ServerHealth.TheVariants.{Listening, NotListening, NoTick}
 use Rattle.bx_metrics.specs.declared.response.MetricsRequest.{MetricsRequest}
-use Rattle.bx_metrics.specs.declared.response.MetricsRequest.TheVariants.{StatusPage, Metrics, Sessions, Channels, Health, Other, NoGet}
+use Rattle.bx_metrics.specs.declared.response.MetricsRequest.TheVariants.{StatusPage, Metrics, Sessions, Channels, Health, Misdirected, Other, NoGet}
 
 -- What a request asks for, by how its head begins.
 abbrev pub asked_of : List ℕ → MetricsRequest
@@ -39,5 +39,6 @@ response_text Channels health page = message_text (codes "200 OK\r\ncontent-type
 response_text Health Listening page = message_text (codes "200 OK") (codes "listening\n")
 response_text Health NotListening page = message_text (codes "503 Service Unavailable") (codes "not listening\n")
 response_text Health NoTick page = message_text (codes "503 Service Unavailable") (codes "no tick for two seconds\n")
+response_text Misdirected health page = message_text (codes "421 Misdirected Request") []
 response_text Other health page = message_text (codes "404 Not Found") []
 response_text NoGet health page = message_text (codes "405 Method Not Allowed\r\nallow: GET") []

@@ -1,3 +1,4 @@
+use crate::ascii::push_ascii;
 use crate::session_lines::{MAX_LIST_BYTES, TRUNCATED};
 use bx_hub::SessionSurvey;
 use json::Writer;
@@ -59,7 +60,11 @@ impl ChannelLines {
                 is_truncated = true;
                 break;
             }
-            text.extend_from_slice(pattern_line(alloc, pattern.as_str(), *count)?.as_slice())?;
+            push_ascii(
+                alloc,
+                &mut text,
+                pattern_line(alloc, pattern.as_str(), *count)?,
+            )?;
         }
         if is_truncated {
             text.extend_from_slice(TRUNCATED)?;

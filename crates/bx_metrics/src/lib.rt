@@ -1,6 +1,7 @@
 //! The server's metrics, and the HTTP responses that show them.
 #![tactic(auto)]
 
+mod ascii;
 mod channel_lines;
 mod counts;
 mod histogram;

@@ -75,7 +75,7 @@ macro_rules! rows {
 }
 
 /// The rows of the metrics page, in order, with those of the same name adjacent.
-pub(crate) const METRICS: [Row; 74] = rows! {
+pub(crate) const METRICS: [Row; 75] = rows! {
     "bayeux_uptime_seconds_total", "counter", "Seconds since the program started.": Metric::Uptime;
     "bayeux_connections", "gauge", "Open connections.": Metric::OpenConnections;
     "bayeux_connections_total", "counter", "Connections accepted.": Metric::AcceptedConnections;
@@ -112,6 +112,7 @@ pub(crate) const METRICS: [Row; 74] = rows! {
         RequestError::NotAdmitted(PostFault::Refused(Refusal::Forbidden)),
         RequestError::NotAdmitted(PostFault::Refused(Refusal::BadMoment)),
         RequestError::NotAdmitted(PostFault::Refused(Refusal::Ended)),
+        RequestError::NotAdmitted(PostFault::TooManyMessages),
         RequestError::NotAdmitted(PostFault::Closed),
         RequestError::NotAdmitted(PostFault::Behind { first: 0 }),
         RequestError::NotAdmitted(PostFault::Overrun { shard: 0, place: 0 }),
@@ -171,13 +172,13 @@ fn place_of_status(status: Status) -> usize
 fn place_of_kind(kind: MessageKind) -> usize
     ensures { place_of (SuccessfulReplies kind) ≡ Some result }
 {
-    51 + kind as usize
+    52 + kind as usize
 }
 
 fn place_of_error(error: Error) -> usize
     ensures { place_of (ErrorReplies error) ≡ Some result }
 {
-    58 + error as usize
+    59 + error as usize
 }
 
 // Errors with the same reason have the same row.
@@ -198,10 +199,11 @@ fn place_of_refused(error: RequestError) -> usize
         | RequestError::NotAdmitted(PostFault::Memory)
         | RequestError::Memory => 38,
         RequestError::NotAdmitted(PostFault::Refused(refusal)) => 39 + refusal as usize,
-        RequestError::NotAdmitted(PostFault::Closed) => 46,
-        RequestError::NotAdmitted(PostFault::Behind { .. }) => 47,
-        RequestError::NotAdmitted(PostFault::Overrun { .. }) => 48,
-        RequestError::NotAdmitted(PostFault::WrongShard { .. }) => 49,
-        RequestError::Unanswered => 50,
+        RequestError::NotAdmitted(PostFault::TooManyMessages) => 46,
+        RequestError::NotAdmitted(PostFault::Closed) => 47,
+        RequestError::NotAdmitted(PostFault::Behind { .. }) => 48,
+        RequestError::NotAdmitted(PostFault::Overrun { .. }) => 49,
+        RequestError::NotAdmitted(PostFault::WrongShard { .. }) => 50,
+        RequestError::Unanswered => 51,
     }
 }

@@ -27,6 +27,8 @@ pub enum MetricsRequest {
     Channels,
     /// `GET /healthz`.
     Health,
+    /// A page or list for another host name, which [`of`](Self::of) does not return.
+    Misdirected,
     /// A GET of another target.
     Other,
     /// Another method than GET, or none.
@@ -63,6 +65,7 @@ impl MetricsRequest {
 /// - `Metrics`: 200 with `page`, which is in Prometheus' text format 0.0.4
 /// - `Sessions`, `Channels`: 200 with `page`, which has a JSON value in each line
 /// - `Health`: 200 if `health` is `Listening`, otherwise 503
+/// - `Misdirected`: 421
 /// - `Other`: 404
 /// - `NoGet`: 405
 pub fn response_text(
@@ -102,6 +105,7 @@ pub fn response_text(
                 b"no tick for two seconds\n",
             ),
         },
+        MetricsRequest::Misdirected => message(alloc, "421 Misdirected Request", b""),
         MetricsRequest::Other => message(alloc, "404 Not Found", b""),
         MetricsRequest::NoGet => message(alloc, "405 Method Not Allowed\r\nallow: GET", b""),
     }

@@ -1,3 +1,4 @@
+use crate::ascii::push_ascii;
 use bx_hub::SessionSurvey;
 use json::{Token, Writer};
 use std::alloc::{AllocError, Global};
@@ -45,7 +46,7 @@ impl SessionLines {
             return Ok(false);
         }
         let line = session_line(alloc, session, now)?;
-        self.text.extend_from_slice(line.as_slice())?;
+        push_ascii(alloc, &mut self.text, line)?;
         self.count += 1;
         Ok(true)
     }

@@ -23,6 +23,8 @@ pub struct PageSettings {
     pub version: &'static str,
     pub config: Config,
     pub body: BodyLimit,
+    /// The greatest number of messages in a request.
+    pub messages: usize,
 }
 
 impl PageSettings {
@@ -49,6 +51,7 @@ impl PageSettings {
             }
         }
         push_limit(alloc, page, "body", self.body.get() as u64)?;
+        push_limit(alloc, page, "messages", self.messages as u64)?;
         push_limit(alloc, page, "shards", config.shards as u64)?;
         let times = [config.timeout, config.interval, config.max_interval];
         for ((name, help), time) in TIMES.iter().zip(times) {

@@ -12,7 +12,7 @@ use std::alloc::Global;
 use std::test::Fail;
 use std::time::Duration;
 
-// The expected page for 72 values: 1, the greatest number, and 3 to 72. The values of the last two
+// The expected page for 72 values: 1, the greatest number, and 3 to 72. The values of the last three
 // metrics are missing. There are two shards.
 const PAGE: &str = r#"# HELP bayeux_uptime_seconds_total Seconds since the program started.
 # TYPE bayeux_uptime_seconds_total counter
@@ -104,36 +104,37 @@ bayeux_requests_refused_total{status="400",reason="a message has no channel"} 43
 bayeux_requests_refused_total{status="403",reason="the listener is read-only"} 44
 bayeux_requests_refused_total{status="400",reason="the clock is out of range"} 45
 bayeux_requests_refused_total{status="503",reason="the list is full"} 46
-bayeux_requests_refused_total{status="503",reason="the server is shutting down"} 47
-bayeux_requests_refused_total{status="503",reason="the window is full because a shard lags"} 48
-bayeux_requests_refused_total{status="503",reason="internal error: the window lacks entries that a shard needs"} 49
-bayeux_requests_refused_total{status="503",reason="internal error: the lock of a shard guards another shard"} 50
-bayeux_requests_refused_total{status="503",reason="the answer is unavailable"} 51
+bayeux_requests_refused_total{status="400",reason="more messages in one request than the server accepts"} 47
+bayeux_requests_refused_total{status="503",reason="the server is shutting down"} 48
+bayeux_requests_refused_total{status="503",reason="the window is full because a shard lags"} 49
+bayeux_requests_refused_total{status="503",reason="internal error: the window lacks entries that a shard needs"} 50
+bayeux_requests_refused_total{status="503",reason="internal error: the lock of a shard guards another shard"} 51
+bayeux_requests_refused_total{status="503",reason="the answer is unavailable"} 52
 # HELP bayeux_replies_total Successful replies, by kind of message.
 # TYPE bayeux_replies_total counter
-bayeux_replies_total{kind="handshake"} 52
-bayeux_replies_total{kind="connect"} 53
-bayeux_replies_total{kind="subscribe"} 54
-bayeux_replies_total{kind="unsubscribe"} 55
-bayeux_replies_total{kind="disconnect"} 56
-bayeux_replies_total{kind="publish"} 57
-bayeux_replies_total{kind="unknown_meta"} 58
+bayeux_replies_total{kind="handshake"} 53
+bayeux_replies_total{kind="connect"} 54
+bayeux_replies_total{kind="subscribe"} 55
+bayeux_replies_total{kind="unsubscribe"} 56
+bayeux_replies_total{kind="disconnect"} 57
+bayeux_replies_total{kind="publish"} 58
+bayeux_replies_total{kind="unknown_meta"} 59
 # HELP bayeux_errors_total Error replies, by error.
 # TYPE bayeux_errors_total counter
-bayeux_errors_total{error="404::Unknown meta channel"} 59
-bayeux_errors_total{error="400::Second handshake"} 60
-bayeux_errors_total{error="400::Unsupported version"} 61
-bayeux_errors_total{error="400::No supported connection type"} 62
-bayeux_errors_total{error="503::Too many sessions"} 63
-bayeux_errors_total{error="401::No client id"} 64
-bayeux_errors_total{error="402::Unknown client"} 65
-bayeux_errors_total{error="400::Unknown connection type"} 66
-bayeux_errors_total{error="400::Invalid channel"} 67
-bayeux_errors_total{error="400::Invalid pattern"} 68
-bayeux_errors_total{error="400::Too many patterns"} 69
-bayeux_errors_total{error="403::Subscription denied"} 70
-bayeux_errors_total{error="400::Missing subscription"} 71
-bayeux_errors_total{error="400::Missing data"} 72
+bayeux_errors_total{error="404::Unknown meta channel"} 60
+bayeux_errors_total{error="400::Second handshake"} 61
+bayeux_errors_total{error="400::Unsupported version"} 62
+bayeux_errors_total{error="400::No supported connection type"} 63
+bayeux_errors_total{error="503::Too many sessions"} 64
+bayeux_errors_total{error="401::No client id"} 65
+bayeux_errors_total{error="402::Unknown client"} 66
+bayeux_errors_total{error="400::Unknown connection type"} 67
+bayeux_errors_total{error="400::Invalid channel"} 68
+bayeux_errors_total{error="400::Invalid pattern"} 69
+bayeux_errors_total{error="400::Too many patterns"} 70
+bayeux_errors_total{error="403::Subscription denied"} 71
+bayeux_errors_total{error="400::Missing subscription"} 72
+bayeux_errors_total{error="400::Missing data"} 0
 bayeux_errors_total{error="408::Superseded connect"} 0
 bayeux_errors_total{error="413::Queue overflow"} 0
 # HELP bayeux_shard_lag_entries Entries of the list that the shard has not applied.
@@ -164,6 +165,7 @@ bayeux_limit{name="sessions"} 65536
 bayeux_limit{name="patterns"} 1024
 bayeux_limit{name="events"} 1024
 bayeux_limit{name="body"} 1048576
+bayeux_limit{name="messages"} 32
 bayeux_limit{name="shards"} 2
 # HELP bayeux_timeout_seconds The longest hold of a connect.
 # TYPE bayeux_timeout_seconds gauge
@@ -209,6 +211,7 @@ fn page_of(alloc: Global, metrics: &MetricValues, process: &ProcessValues) -> Re
         version: "1.2.3",
         config: Config::new(2, 30_000, 5, u32::MAX).ok_or("the settings are not valid")?,
         body: BodyLimit::greatest(),
+        messages: 32,
     };
     Ok(page_text(alloc, metrics, &settings, process)?)
 }
@@ -444,13 +447,14 @@ fn sessions_have_lines(rt: HostRuntime) -> Result<(), Fail> {
 fn patterns_have_lines_in_order(rt: HostRuntime) -> Result<(), Fail> {
     let alloc = rt.alloc();
     let mut lines = ChannelLines::new(alloc);
-    for patterns in [["/b", "/a/*"], ["/a", "/b"]] {
+    for patterns in [["/b", "/a/*"], ["/a", "/b"], ["/\u{e4}\u{1f600}", "/b"]] {
         assert!(rt; lines.add(alloc, &session_of(alloc, 1, &patterns)?)?);
     }
     let text = lines.text(alloc)?;
     let wanted = r#"{"pattern":"/a","subscriptions":1}
 {"pattern":"/a/*","subscriptions":1}
-{"pattern":"/b","subscriptions":2}
+{"pattern":"/b","subscriptions":3}
+{"pattern":"/\u00e4\ud83d\ude00","subscriptions":1}
 "#;
     assert_eq!(rt; str::from_utf8(text.as_slice())?, wanted);
     Ok(())

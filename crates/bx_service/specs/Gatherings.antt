@@ -14,7 +14,7 @@ use Rattle.bx_held.specs.declared.held.PendingAnswer.{PendingAnswer}
 use Rattle.bx_hub.specs.Faults.{IsStopped}
 use Rattle.bx_hub.specs.Held.{answer_over}
 use Rattle.bx_hub.specs.Lags.{IsLagging}
-use Rattle.bx_hub.specs.Posts.{IsAdmittedAt, IsRefused}
+use Rattle.bx_hub.specs.Posts.{IsAdmittedAt, IsRejected}
 use Rattle.bx_hub.specs.declared.fault.PostFault.{PostFault}
 use Rattle.bx_hub.specs.declared.fault.PostFault.TheVariants.{Memory}
 use Rattle.bx_hub.specs.declared.parsed_request.rejection.Rejection.{Rejection}
@@ -166,13 +166,13 @@ module _ (tells draws : ℕ → Type 0) where
         pub lacks : IsLack setup.config.shards ticket seen lack
 
     module _ {L : Type 0} {g : LogId.Ghosts L} where
-      -- The hub rejected the request with `documents` and the stamp because of `fault`. `seen`:
-      -- what the pass of the call had then seen. The rejection also shows whether the hub was
-      -- closed.
-      pub record IsRejectedOver (documents : List (List ℕ)) (fault : PostFault) (stamp : Stamp) (seen : List LogStep) (rejection : Rejection L g) : Type 0 where
+      -- The hub, which accepts up to `most` messages in a request, rejected the request with
+      -- `documents` and the stamp because of `fault`. `seen`: what the pass of the call had then
+      -- seen. The rejection also shows whether the hub was closed.
+      pub record IsRejectedOver (most : ℕ) (documents : List (List ℕ)) (fault : PostFault) (stamp : Stamp) (seen : List LogStep) (rejection : Rejection L g) : Type 0 where
         pub source : IsStamped stamp
         pub named : rejection.fault ≡ fault
-        pub refused : IsRefused (request_of access stamp documents) fault seen
+        pub refused : IsRejected most (request_of access stamp documents) fault seen
         pub lags : IsLagging fault rejection.lag seen
 
       -- The witness shows that `items` answer the request with `documents`.
@@ -196,8 +196,8 @@ module _ (tells draws : ℕ → Type 0) where
 
       -- The witness shows that the hub rejected the request with `documents` because of `fault`.
       -- Without a witness, memory ran out before the hub was asked.
-      abbrev pub IsRejectedBy : List (List ℕ) → PostFault → Option (HubWitness L g) → Type 0
-      IsRejectedBy documents fault None = fault ≡ Memory
-      IsRejectedBy documents fault (Some (Answering stamp first posted seen)) = ⊥
-      IsRejectedBy documents fault (Some (Lacking stamp first posted seen ticket lack)) = ⊥
-      IsRejectedBy documents fault (Some (Rejecting stamp seen rejection)) = IsRejectedOver documents fault stamp seen rejection
+      abbrev pub IsRejectedBy : ℕ → List (List ℕ) → PostFault → Option (HubWitness L g) → Type 0
+      IsRejectedBy most documents fault None = fault ≡ Memory
+      IsRejectedBy most documents fault (Some (Answering stamp first posted seen)) = ⊥
+      IsRejectedBy most documents fault (Some (Lacking stamp first posted seen ticket lack)) = ⊥
+      IsRejectedBy most documents fault (Some (Rejecting stamp seen rejection)) = IsRejectedOver most documents fault stamp seen rejection

@@ -1,5 +1,5 @@
 -- What responses contain.
-use Rattle.std.specs.Prelude.{◌≡◌, ◌⊎◌, ℕ, List, [], Option, Some, None, codes}
+use Rattle.std.specs.Prelude.{◌≡◌, ◌⊎◌, ℕ, Bool, true, false, if◌then◌else◌, List, [], Option, Some, None, codes}
 use Rattle.http.specs.Response.{head_of, body_of}
 use Rattle.http.specs.declared.response.Response.{Response}
 use Rattle.http_header.specs.FieldValue.{FieldValue, plain_value}
@@ -9,13 +9,29 @@ use Rattle.bx_pieces.specs.declared.pieces.Pieces.{Pieces}
 use Rattle.bx_message.specs.declared.reply.Item.{Item}
 use Rattle.bx_service.specs.Errors.{error_reason, error_status}
 use Rattle.bx_service.specs.declared.error.RequestError.{RequestError}
-use Rattle.bx_service.specs.declared.error.RequestError.TheVariants.{MethodNotAllowed}
+use Rattle.bx_service.specs.declared.error.RequestError.TheVariants.{NotFound, MethodNotAllowed, TransferCoding, MediaType, Unreadable}
+use Rattle.bx_transport.specs.declared.error.TransportError.TheVariants.{TooLarge}
 use Rattle.bx_message.specs.Statuses.{code_of}
 
--- The fields that a response without a body needs: for 405 the allowed methods.
+-- Whether the error may be found before the request's whole body is read.
+abbrev pub leaves_body : RequestError → Bool
+leaves_body NotFound = true
+leaves_body MethodNotAllowed = true
+leaves_body TransferCoding = true
+leaves_body MediaType = true
+leaves_body (Unreadable TooLarge) = true
+leaves_body error = false
+
+-- The allowed methods, for 405.
+abbrev pub allowed_methods : RequestError → Entries FieldValue
+allowed_methods MethodNotAllowed = insert [] (codes "allow") (plain_value (codes "GET, POST"))
+allowed_methods error = []
+
+-- The fields that a response without a body needs: for 405 the allowed methods, and `close` if the
+-- request's body may not have been read.
 abbrev pub needed_fields : RequestError → Entries FieldValue
-needed_fields MethodNotAllowed = insert [] (codes "allow") (plain_value (codes "GET, POST"))
-needed_fields error = []
+needed_fields error =
+    if leaves_body error then insert (allowed_methods error) (codes "connection") (plain_value (codes "close")) else allowed_methods error
 
 -- The fields of a response without a body: those that it needs, and the reason in words.
 abbrev pub refusal_fields : RequestError → Entries FieldValue

@@ -162,7 +162,7 @@ where
 
     // Ghost: the hub rejected the request, or memory ran out before the post.
     ghost rejects = { λ backend documents fault witness.
-        IsRejectedBy (C.tells backend.clock) (N.draws backend.nonces) backend.access documents fault witness };
+        IsRejectedBy (C.tells backend.clock) (N.draws backend.nonces) backend.access (arc_value backend.hub).most_messages documents fault witness };
 
     ghost stands = { λ items place. place ≡ items.first };
 

@@ -1,18 +1,19 @@
-ghost use Rattle.std.specs.Prelude.{◌≡◌, ◌⊎◌, IfOk, option_map};
-ghost use Rattle.bx_service.specs.Responses.{IsAnswer, IsRefusal, needed_fields, refusal_fields};
+ghost use Rattle.std.specs.Prelude.{◌≡◌, ◌⊎◌, IfOk, OnOk, option_map};
+ghost use Rattle.bx_service.specs.Responses.{IsAnswer, IsRefusal, leaves_body, needed_fields, refusal_fields};
 
 use crate::error::{RequestError, code_of};
 use bx_message::Item;
 use bx_pieces::Pieces;
+use bx_transport::TransportError;
 use bytes::Bytes;
-use http::header::{ALLOW, CONTENT_TYPE, HeaderName, HeaderValue};
+use http::header::{ALLOW, CONNECTION, CONTENT_TYPE, HeaderName, HeaderValue};
 use http::{HeaderMap, Response};
 use std::alloc::{AllocError, Global};
 
 /// Creates a response with the status of `error` and no body.
 ///
-/// It has a field `Allow` if the status is 405, and a field `bayeux-error` with the reason, which
-/// is missing if memory runs out for it.
+/// It has a field `Allow` if the status is 405, and `Connection: close` if the request's body may
+/// not have been read. The reason is in a field `bayeux-error`, unless memory runs out for it.
 pub(crate) fn refusal(
     alloc: Global,
     error: RequestError,
@@ -48,7 +49,28 @@ fn needed_fields(alloc: Global, error: RequestError) -> Result<HeaderMap, AllocE
             return Err(AllocError);
         }
     }
+    if leaves_body(error) {
+        let close = HeaderValue::from_static("close");
+        if fields.insert(CONNECTION, close).is_err() {
+            return Err(AllocError);
+        }
+    }
     Ok(fields)
+}
+
+// The server does not read on after these errors. A client that sends the next request over the
+// same connection would lose it.
+fn leaves_body(error: RequestError) -> bool
+    ensures { result ≡ leaves_body error }
+{
+    matches!(
+        error,
+        RequestError::NotFound
+            | RequestError::MethodNotAllowed
+            | RequestError::TransferCoding
+            | RequestError::MediaType
+            | RequestError::Unreadable(TransportError::TooLarge)
+    )
 }
 
 /// Creates a response with status 200 and `items`, as JSON, or as a script that calls `callback`.

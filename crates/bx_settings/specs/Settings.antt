@@ -7,6 +7,7 @@ use Rattle.bx_advice.specs.declared.config.Config.{Config}
 use Rattle.bx_advice.specs.declared.limit.Limit.TheVariants.{Events}
 use Rattle.bx_advice.specs.declared.limit.TheConstants.{BODY_LIMIT, MAX_SHARDS}
 use Rattle.bx_advice.specs.Configs.{new_config, with_maximum, with_options}
+use Rattle.bx_cut.specs.declared.document.TheConstants.{MAX_MESSAGES}
 use Rattle.bx_names.specs.Globs.{Glob}
 use Rattle.bx_message.specs.Fields.{number_of}
 use Rattle.bx_message.specs.Numbers.{◌>>=◌, count_in, limit_in, time_in}
@@ -23,6 +24,7 @@ pub record PlainSettings : Type 0 where
   pub readers_publish : List Glob
   pub config : Config
   pub body : ℕ
+  pub messages : ℕ
   pub callback_polling : Bool
   pub seed : Seed
   pub connections : ℕ
@@ -44,6 +46,7 @@ plain settings = record {
   readers_publish = settings.readers_publish.items;
   config = settings.config;
   body = settings.body;
+  messages = settings.messages;
   callback_polling = settings.callback_polling;
   seed = settings.seed;
   connections = settings.connections;
@@ -88,7 +91,7 @@ settings_in (listen ∷ shards ∷ timeout ∷ interval ∷ max_interval ∷ see
   c ← config_in shards timeout interval max_interval o.0 o.1
   bytes ← seed_in seed
   n ← number_of connections
-  Some (record { listen = listen; read_only_listen = None; readers_publish = []; config = c; body = BODY_LIMIT; callback_polling = true; seed = FromArguments bytes; connections = n; metrics = None; record_file = None; record_answers = false; record_bytes = 2 ^ 64 - 1; until_eof = false; log = Text; log_level = Info })
+  Some (record { listen = listen; read_only_listen = None; readers_publish = []; config = c; body = BODY_LIMIT; messages = MAX_MESSAGES; callback_polling = true; seed = FromArguments bytes; connections = n; metrics = None; record_file = None; record_answers = false; record_bytes = 2 ^ 64 - 1; until_eof = false; log = Text; log_level = Info })
 settings_in args = None
 
 -- A text is an IP address and a port, such as `127.0.0.1:8087` or `[::1]:8087`.

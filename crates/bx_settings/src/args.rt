@@ -4,6 +4,7 @@ ghost use Rattle.bx_settings.specs.Settings.{config_in, Give, IsAddress, optiona
 use crate::seed::read_digits;
 use crate::settings::{LogFormat, LogLevel, Seed, Settings};
 use bx_advice::{BodyLimit, Config, Limit, MAX_SHARDS, Options};
+use bx_cut::MAX_MESSAGES;
 use bx_message::{count_in, limit_in, number_of, time_in};
 use std::alloc::Global;
 use std::net::SocketAddr;
@@ -73,6 +74,7 @@ fn settings_in(alloc: Global, args: &[String]) -> Option<Settings<'_>>
         readers_publish: Vec::new(alloc),
         config,
         body: BodyLimit::greatest(),
+        messages: MAX_MESSAGES,
         callback_polling: true,
         seed: Seed::FromArguments(read_digits(seed.as_bytes())?),
         connections: number_of(connections.as_bytes())?,

@@ -3,6 +3,7 @@ ghost use Rattle.std.specs.Prelude.{◌≡◌, max, min};
 use crate::settings::{LogFormat, LogLevel, Seed, Settings};
 use crate::unit::{count_with_unit, milliseconds};
 use bx_advice::{BODY_LIMIT, BodyLimit, Config, Limit, MAX_SHARDS, Options};
+use bx_cut::MAX_MESSAGES;
 use bx_message::{count_in, number_of};
 use bx_names::{NameError, Pattern};
 use clap::error::ErrorKind;
@@ -19,7 +20,7 @@ const TIME: &str = "a time such as 500ms or 30s, up to 4294967295ms";
 
 const PATTERN: &str = "a pattern of channels such as /chat/*";
 
-// The greatest size of a record that can be set, in bytes: 2^44, which no disk has.
+// The greatest size of a record that can be set, in bytes: 2^44.
 const MAX_RECORD: usize = 17_592_186_044_416;
 
 // The times that need a unit are below this one, in milliseconds: the user may have meant seconds.
@@ -43,6 +44,7 @@ pub fn read_flags<'a>(
     let matches = command.try_get_matches_from_mut(args)?;
     let config = read_config(alloc, &mut command, &matches, processors)?;
     let body = read_body(alloc, &mut command, &matches)?;
+    let messages = read_messages(alloc, &mut command, &matches)?;
     let listen = read_address(alloc, &mut command, &matches, "listen")?;
     let read_only_listen = read_address(alloc, &mut command, &matches, "readers")?;
     let metrics = read_address(alloc, &mut command, &matches, "metrics")?;
@@ -53,20 +55,14 @@ pub fn read_flags<'a>(
     let log = read_log_format(alloc, &mut command, &matches)?;
     let log_level = read_log_level(alloc, &mut command, &matches)?;
     let connections = read_connections(alloc, &mut command, &matches)?;
-    let record_bytes = read_number(
-        alloc,
-        &mut command,
-        &matches,
-        "record-bytes",
-        MAX_RECORD,
-        usize::MAX,
-    )?;
+    let record_bytes = read_record_bytes(alloc, &mut command, &matches)?;
     Ok(Settings {
         listen: listen.unwrap_or(""),
         read_only_listen,
         readers_publish,
         config,
         body,
+        messages,
         callback_polling: !matches.get_flag("no-callback-polling"),
         seed: match matches.get_str("seed-file") {
             Some(path) => Seed::File(path),
@@ -240,6 +236,36 @@ fn read_body(
     Ok(BodyLimit::new(body).unwrap_or(BodyLimit::greatest()))
 }
 
+fn read_messages(
+    alloc: Global,
+    command: &mut Command<'_>,
+    matches: &ArgMatches<'_>,
+) -> Result<usize, Error> {
+    read_number(
+        alloc,
+        command,
+        matches,
+        "messages",
+        MAX_MESSAGES,
+        MAX_MESSAGES,
+    )
+}
+
+fn read_record_bytes(
+    alloc: Global,
+    command: &mut Command<'_>,
+    matches: &ArgMatches<'_>,
+) -> Result<usize, Error> {
+    read_number(
+        alloc,
+        command,
+        matches,
+        "record-bytes",
+        MAX_RECORD,
+        usize::MAX,
+    )
+}
+
 fn read_connections(
     alloc: Global,
     command: &mut Command<'_>,
@@ -378,12 +404,19 @@ fn with_limits<'a>(alloc: Global, command: Command<'a>) -> Result<Command<'a>, A
     for limit in &Limit::ALL {
         command = with_limit(alloc, command, *limit)?;
     }
-    command.arg(value(
-        alloc,
-        "body",
-        "N",
-        "Allow at most N bytes in the body or query of a request, 1 to 1m [default: 1m]",
-    ))
+    command
+        .arg(value(
+            alloc,
+            "body",
+            "N",
+            "Allow at most N bytes in the body or query of a request, 1 to 1m [default: 1m]",
+        ))?
+        .arg(value(
+            alloc,
+            "messages",
+            "N",
+            "Allow at most N messages in a request, 1 to 256 [default: 256]",
+        ))
 }
 
 fn with_limit<'a>(
@@ -435,7 +468,8 @@ fn with_running<'a>(alloc: Global, command: Command<'a>) -> Result<Command<'a>, 
         "record-bytes",
         "N",
         "With --record, end the record before it has more than N bytes [default: no limit]",
-    );
+    )
+    .requires_arg("record")?;
     // `--figures` is the former name of `--metrics`.
     let metrics = value(
         alloc,

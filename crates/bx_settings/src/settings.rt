@@ -41,6 +41,8 @@ pub struct Settings<'a> {
     pub config: Config,
     /// The greatest length in bytes of a request's body or query.
     pub body: BodyLimit,
+    /// The greatest number of messages in a request.
+    pub messages: usize,
     /// Whether the server accepts GETs, and POSTs of any media type, not only `application/json`.
     pub callback_polling: bool,
     pub seed: Seed<'a>,

@@ -1,11 +1,9 @@
-ghost use Rattle.std.specs.Prelude.{◌≡◌, None, true, false};
-ghost use Rattle.bx_hub.specs.Faults.{of_admission};
+ghost use Rattle.std.specs.Prelude.{◌≡◌, ◌≢◌, None, true, false};
 ghost use Rattle.bx_hub.specs.declared.fault.PostFault.TheVariants as faults;
 
 use crate::admission::Admission;
 use crate::fault::PostFault;
 use crate::shard_state::ShardAdvance;
-use bx_entry::AdmitFault;
 use bx_window::LogId;
 use std::fmt;
 use std::snapshot::Snapshot;
@@ -16,7 +14,8 @@ use std::sync::Wait;
 /// It is created while admission is locked, and records whether the hub was closed. With `Behind`
 /// or `Overrun`, it also records the position of a shard that made the post or tick fail.
 ///
-/// If the request cannot be read, it is created before, and only the fault has a meaning.
+/// If the request cannot be read or has too many messages, it is created before, and only the fault
+/// has a meaning.
 #[derive(Drop)]
 pub struct Rejection<L: LogId> {
     fault: PostFault,
@@ -50,12 +49,13 @@ impl<L: LogId> Rejection<L> {
         }
     }
 
-    /// Creates evidence that a request cannot be read, whether the hub is closed or not.
-    pub(super) fn unread(fault: AdmitFault) -> Rejection<L>
-        ensures { (result.fault ≡ of_admission fault) × (result.lag ≡ None) × (result.closed.value ≡ false) }
+    /// Creates evidence of a fault that was found before admission was locked.
+    pub(super) fn unlocked(fault: PostFault) -> Rejection<L>
+        requires { fault ≢ faults.Closed }
+        ensures { (result.fault ≡ fault) × (result.lag ≡ None) × (result.closed.value ≡ false) }
     {
         Rejection {
-            fault: PostFault::from(fault),
+            fault,
             closed: Snapshot::of(&false),
             lag: None,
         }
