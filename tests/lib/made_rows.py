@@ -92,9 +92,14 @@ def overflows():
             f"{expected}2 200 [<connected 1>]\n22 200 [<overflowed 1>]\n",
             f".. - {limit}",
         )
-    rider = [("[<subscribe 1 /a>]", "200 [<subscribed 1 /a>]"), ("[<publish 1 /b 2>]", "200 [<published /b>]"), ("[<poll 1>]", "200 [<overflowed 1>]")]
-    pairs = *handshakes(1, 2), *as_many_patterns(), ("[<publish 2 /3/0 1>]", "200 [<published /3/0>]"), *rider
-    yield "a rider whose patterns are one too many gets nothing, and none behind it does", *answered(*pairs), ".. r"
+    yield "a rider whose patterns are one too many gets nothing, and none behind it does", *answered(
+        *handshakes(1, 2),
+        *as_many_patterns(),
+        ("[<publish 2 /3/0 1>]", "200 [<published /3/0>]"),
+        ("[<subscribe 1 /a>]", "200 [<subscribed 1 /a>]"),
+        ("[<publish 1 /b 2>]", "200 [<published /b>]"),
+        ("[<poll 1>]", "200 [<overflowed 1>]"),
+    ), ".. r"
 
 
 def limits():
