@@ -71,6 +71,7 @@ def test_only_the_transfer_coding_chunked_is_accepted(daemon, client):
 
 @pytest.mark.parametrize("flags", [[], ["--readers", "localhost:0"]], ids=["main", "readers"])
 def test_without_callback_polling_only_posts_of_json_are_accepted(daemon, client, flags):
+    """The metrics count the others."""
     server = daemon("--no-callback-polling", "--connections", "1", *flags)
     connection = client(server.readers if flags else server)
     for kind in (JSON, b"APPLICATION/json ; charset=utf-8"):
@@ -79,6 +80,8 @@ def test_without_callback_polling_only_posts_of_json_are_accepted(daemon, client
         expect_status(connection, post(b"[]", kind), 415, "the content type is not application/json")
     expect_status(connection, post(b"[]").replace(b"content-type", b"content-tipe"), 415, "the content type is not application/json")
     expect_status(connection, get(b"?message=[]"), 403, "callback-polling is off")
+    counts = {'{status="415",reason="the content type is not application/json"}': 7, '{status="403",reason="callback-polling is off"}': 1}
+    server.expect({("bayeux_requests_refused_total", labels): count for labels, count in counts.items()})
     # Bodies that came with their heads are read.
     for it in (get(b"?message=[]", path=b"/"), post(b"[]", path=b"/")):
         expect_status(connection, it, 404, "Bayeux is at /cometd")
