@@ -1,10 +1,7 @@
-"""Requests of HTTP: limits of bodies, queries and heads, transfer codings, methods, media types, and parts that arrive late."""
-import json
-import urllib.parse
-
+"""Requests of HTTP: limits of bodies, queries and heads, transfer codings, methods, and media types."""
 import pytest
 
-from daemon import FORM, HANDSHAKE, expect_status, expect_success, get, post, post_coded
+from daemon import FORM, expect_status, get, post, post_coded
 
 JSON = b"application/json"
 # The most bytes of a body in a daemon with a small limit.
@@ -88,22 +85,3 @@ def test_without_callback_polling_only_posts_of_json_are_accepted(daemon, client
     expect_status(connection, post(b"[]").replace(b"POST", b"PUT"), 405, "the method is neither GET nor POST")
     connection.socket.close()
     server.expect_end()
-
-
-HANDSHAKE_BODY = json.dumps([HANDSHAKE]).encode()
-BODIES = {"json": (JSON, HANDSHAKE_BODY), "form": (FORM, b"message=" + urllib.parse.quote_plus(HANDSHAKE_BODY).encode())}
-
-
-@pytest.mark.parametrize("pause", [0.3, 2.5, 29])
-@pytest.mark.parametrize("kind", BODIES)
-@pytest.mark.parametrize("late", [None, 4], ids=["whole body", "its end"])
-def test_body_may_arrive_after_its_head(daemon, client, clock, kind, late, pause):
-    """The daemon waits 30 seconds for more of a body."""
-    media_type, body = BODIES[kind]
-    connection, request = client(daemon(env=clock.env)), post(body, media_type)
-    at = len(request) - (late or len(body))
-    connection.send(request[:at])
-    connection.wait_until_read()
-    clock.add(pause)
-    connection.send(request[at:])
-    expect_success(connection.response().items(), 1)
