@@ -78,33 +78,24 @@ def test_window_keeps_no_requests_that_all_shards_have_applied(daemon, client, t
     assert sum(it["held"] for it in sessions) == len(held)
 
 
-def test_late_body_and_health_get_503(daemon, client, clock):
-    """An idle connection does not delay the end by more than a second."""
+def test_open_connection_is_served_for_a_second(daemon, client, clock):
+    """Then it gets 503, as do a late body and the health. An idle connection does not delay the end any further."""
     server = daemon(env=clock.env)
-    idle, connection = client(server), client(server)
-    expect_status(idle, post(b"[]"), 200)
+    idle, late, connection = (client(server) for _ in range(3))
+    for it in (idle, connection):
+        expect_status(it, post(b"[]"), 200)
     request = post(b"[     ]")
-    connection.send(request[:-4])
-    connection.wait_until_read()
+    late.send(request[:-4])
+    late.wait_until_read()
     server.process.stdin.close()
     wait_until("refused ticks", lambda: server.scrape()[REFUSED_TICKS] > 0)
     assert ask_for(server.metrics, get(b"", b"/healthz")).status == 503
     clock.add(LEAVE - 0.1)
-    expect_status(connection, request[-4:], 503)
-    server.check_alive()
-    end_second(server, clock)
-
-
-def test_open_connection_is_served_for_a_second(daemon, client, clock):
-    server = daemon(env=clock.env)
-    connection = client(server)
-    expect_status(connection, post(b"[]"), 200)
-    server.process.stdin.close()
-    wait_until("refused ticks", lambda: server.scrape()[REFUSED_TICKS] > 0)
-    clock.add(LEAVE - 0.1)
     before = server.scrape()[REFUSED_TICKS]
     wait_until("more refused ticks", lambda: server.scrape()[REFUSED_TICKS] > before + 1)
+    expect_status(late, request[-4:], 503)
     expect_status(connection, post(b"[]"), 503, "the server is shutting down")
+    server.check_alive()
     end_second(server, clock)
 
 

@@ -6,12 +6,11 @@ import subprocess
 
 import pytest
 
-from base import TIMEOUT_SECONDS, limit_file_size, read, readable, wait_until
+from base import TIMEOUT_SECONDS, limit_file_size, read, readable
 from chacha import drawn
 from daemon import HANDSHAKE, SEED, expect_error, expect_events, expect_status, expect_success, get, open_session, poll, post, publish
 from daemon import subscribe
 from documented import ADDRESSES, FLAGS, GREATEST, SWITCHES, TIMES, VALUES
-from metrics import REFUSED_TICKS, TICKED
 from runs import ANYWHERE, cannot, faults, match, no_place, run, without_times
 
 # What the log has of settings that are off, and of those that the log leaves out. The log has the others as the page has them.
@@ -220,19 +219,13 @@ def test_version_is_the_one_of_the_repository(program):
 
 # Defaults in the help that the page states in other words. A flag that is off has none, unless it has an argument.
 HELP_DEFAULTS = {"off": "none", "one per processor": "one for each processor", "1048576": "1m"}
-# What the help and the page both say of a flag.
-PHRASES = {
-    **{"listen": "host name or IP address with a port", "readers": "also listen at ADDRESS", "readers-publish": "that PATTERN matches"},
-    **{"shards": "divide the sessions among N shards", "seed-file": "64 hexadecimal digits", "timeout": "hold a connect"},
-    **{"interval": "advise clients to wait for TIME between two connects", "max-interval": "accepted message", "bytes": "at most N bytes"},
-    **{"sessions": "live", "patterns": "patterns", "limit": "events", "body": "body or query", "ride": "waiting events with"},
-    **{"anonymous": "accept publishes without a", "no-callback-polling": "accept only POSTs of application/json", "metrics": "serve metrics"},
-    **{"connections": "N connections", "record": "record every", "record-answers": "record the SHA-256 of each answer"},
-    **{"record-bytes": "end the record before it has more than N bytes"},
-    **{"until-eof": "standard input", "log": "write the log as text", "log-level": "log only errors (error)"},
-}
 # Words that turn a sentence into its opposite.
 OPPOSITES = {"unless", "except"}
+
+
+def words_of(text):
+    """Returns the words of `text` in lower case, without short ones."""
+    return set(re.findall(r"[a-z0-9-]{3,}", text.lower()))
 
 
 def test_help_has_the_documented_flags(program):
@@ -249,7 +242,8 @@ def test_help_has_the_documented_flags(program):
         assert (argument, shown and shown[1]) == (wanted, default), f"--{name}"
         assert limits is None or limits[1].replace("1m", str(1 << 20)) == greatest, f"--{name}"
         assert limits or not greatest or name in ("bytes", "record-bytes"), f"--{name} has no range"
-        assert all(PHRASES[name].lower() in it.lower() for it in (help_text, words)), f"--{name}"
+        shared = {it: len(words_of(help_text) & words_of(FLAGS[it][-1])) for it in FLAGS}
+        assert shared[name] == max(shared.values()), f"--{name} has the help of another flag: {help_text}"
         assert OPPOSITES & set(help_text.split()) <= set(words.split()), f"--{name}"
 
 
@@ -331,22 +325,23 @@ def test_each_flag_has_its_effect_with_all_others(daemon, client, tmp_path):
     assert {"A", "N", "P"} <= {it.split()[0 if it[0] == "A" else 1] for it in written[1:]}, "requests and answers in the record"
 
 
-@pytest.mark.parametrize("has_all", [False, True], ids=["few flags", "all flags"])
-def test_end_of_input_ends_no_daemon_without_the_flag(daemon, client, tmp_path, has_all):
+# The arguments of daemons that serve on at the end of standard input: few flags, all other flags, and positional arguments.
+ENDLESS = {
+    "few flags": ANYWHERE,
+    "all flags": [
+        *(f"{name}={value}" for name, value in ALL_FLAGS if name not in ("--connections", "--log")),
+        *("--record=record", "--seed-file=seed", *(f"--{it}" for it in SWITCHES if it != "until-eof")),
+    ],
+    "positional arguments": [*ARGUMENTS[:-1], "0"],
+}
+
+
+@pytest.mark.parametrize("flags", ENDLESS.values(), ids=ENDLESS)
+def test_end_of_input_ends_no_daemon_without_the_flag(daemon, client, tmp_path, flags):
     (tmp_path / "seed").write_text(SEED, encoding="ascii")
-    values = {**dict(ALL_FLAGS), "--log": "text", "--record": tmp_path / "record", "--seed-file": tmp_path / "seed"}
-    del values["--connections"]
-    given = [*(f"{name}={value}" for name, value in values.items()), *(f"--{it}" for it in SWITCHES if it != "until-eof")]
-    server = daemon(*(given if has_all else [*ANYWHERE, "--metrics", "127.0.0.1:0"]), is_plain=True, stdin=subprocess.DEVNULL)
-    wait_until("ticks after the end of standard input", lambda: server.scrape()[TICKED] > 3)
-    open_session(client(server))
-    assert server.scrape()[REFUSED_TICKS] == 0
-
-
-def test_end_of_input_ends_no_daemon_with_positional_arguments(daemon, client):
-    server = daemon(*ARGUMENTS[:-1], "0", is_plain=True, stdin=subprocess.DEVNULL)
-    # Meanwhile, the daemon has read the end of standard input.
+    server = daemon(*flags, is_plain=True, stdin=subprocess.DEVNULL, cwd=tmp_path)
+    # Meanwhile, the daemon has read the end of standard input. If this ended it, it would answer with 503.
     for _ in range(100):
         with client(server) as connection:
-            open_session(connection)
+            expect_status(connection, post(b"[]"), 200)
     server.check_alive()

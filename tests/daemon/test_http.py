@@ -1,10 +1,7 @@
-"""Requests of HTTP: limits of bodies, queries and heads, transfer codings, methods, media types, and parts that arrive late."""
-import json
-import urllib.parse
-
+"""Requests of HTTP: limits of bodies, queries and heads, transfer codings, methods, and media types."""
 import pytest
 
-from daemon import FORM, HANDSHAKE, expect_status, expect_success, get, post, post_coded
+from daemon import FORM, expect_status, get, post, post_coded
 
 JSON = b"application/json"
 # The most bytes of a body in a daemon with a small limit.
@@ -71,6 +68,7 @@ def test_only_the_transfer_coding_chunked_is_accepted(daemon, client):
 
 @pytest.mark.parametrize("flags", [[], ["--readers", "localhost:0"]], ids=["main", "readers"])
 def test_without_callback_polling_only_posts_of_json_are_accepted(daemon, client, flags):
+    """The metrics count the others."""
     server = daemon("--no-callback-polling", "--connections", "1", *flags)
     connection = client(server.readers if flags else server)
     for kind in (JSON, b"APPLICATION/json ; charset=utf-8"):
@@ -79,28 +77,11 @@ def test_without_callback_polling_only_posts_of_json_are_accepted(daemon, client
         expect_status(connection, post(b"[]", kind), 415, "the content type is not application/json")
     expect_status(connection, post(b"[]").replace(b"content-type", b"content-tipe"), 415, "the content type is not application/json")
     expect_status(connection, get(b"?message=[]"), 403, "callback-polling is off")
+    counts = {'{status="415",reason="the content type is not application/json"}': 7, '{status="403",reason="callback-polling is off"}': 1}
+    server.expect({("bayeux_requests_refused_total", labels): count for labels, count in counts.items()})
     # Bodies that came with their heads are read.
     for it in (get(b"?message=[]", path=b"/"), post(b"[]", path=b"/")):
         expect_status(connection, it, 404, "Bayeux is at /cometd")
     expect_status(connection, post(b"[]").replace(b"POST", b"PUT"), 405, "the method is neither GET nor POST")
     connection.socket.close()
     server.expect_end()
-
-
-HANDSHAKE_BODY = json.dumps([HANDSHAKE]).encode()
-BODIES = {"json": (JSON, HANDSHAKE_BODY), "form": (FORM, b"message=" + urllib.parse.quote_plus(HANDSHAKE_BODY).encode())}
-
-
-@pytest.mark.parametrize("pause", [0.3, 2.5, 29])
-@pytest.mark.parametrize("kind", BODIES)
-@pytest.mark.parametrize("late", [None, 4], ids=["whole body", "its end"])
-def test_body_may_arrive_after_its_head(daemon, client, clock, kind, late, pause):
-    """The daemon waits 30 seconds for more of a body."""
-    media_type, body = BODIES[kind]
-    connection, request = client(daemon(env=clock.env)), post(body, media_type)
-    at = len(request) - (late or len(body))
-    connection.send(request[:at])
-    connection.wait_until_read()
-    clock.add(pause)
-    connection.send(request[at:])
-    expect_success(connection.response().items(), 1)

@@ -1,15 +1,15 @@
 """The lists of sessions and of channels at the metrics listener."""
 import collections
 import json
-import socket
-import struct
+import re
 import time
 
 import pytest
 
 from base import wait_until
-from daemon import NO_SOCKETS, SlowReader, close_all, expect_events, expect_success, get, open_many, open_session, poll, send_connect, subscribe
+from daemon import SlowReader, close_all, expect_events, expect_success, get, open_many, open_session, poll, send_connect, subscribe
 from metrics import ask_for, read_list
+from strace import NO_STRACE, STRACE, can_trace, start_traced
 
 # The sessions of a test, in the order in which they are opened. Two events wait for each of the first two. One of these has got them,
 # and has not acknowledged them. It has a pattern that JSON writes with escapes.
@@ -91,16 +91,12 @@ def test_list_of_sessions_has_at_most_a_thousand(daemon, client, shards):
     close_all(connection, sessions)
 
 
-@pytest.fixture
-def long_lists(daemon, client):
-    """A daemon with sessions whose patterns are longer than a list may be."""
-    server = daemon("--shards", "1")
-    connection = client(server)
+def make_long_lists(connection):
+    """Opens sessions whose patterns are longer than a list may be."""
     for number, session in enumerate(open_many(connection, LONG_LISTED + 1)):
         patterns = [pattern(number, at) for at in range(PATTERNS)]
         some = [{"channel": "/meta/subscribe", "subscription": patterns[at : at + 64], **session} for at in range(0, PATTERNS, 64)]
         expect_success(connection.ask(some), len(some))
-    return server
 
 
 def pattern(number, at):
@@ -108,23 +104,27 @@ def pattern(number, at):
     return f"/{number}/{at:04}/{'x' * (LONG - 8)}"
 
 
-def test_lists_end_after_a_megabyte(long_lists):
-    found = sessions_of(long_lists)
+def test_lists_end_after_a_megabyte(daemon, client):
+    server = daemon("--shards", "1")
+    make_long_lists(client(server))
+    found = sessions_of(server)
     assert len(found) == LONG_LISTED + 1 and found[-1] == TRUNCATED
-    *found, last = read_list(long_lists.metrics, b"/channels")
+    *found, last = read_list(server.metrics, b"/channels")
     assert last == TRUNCATED
     assert [it["pattern"] for it in found[:PATTERNS]] == [pattern(0, at) for at in range(PATTERNS)]
     assert sum(len(json.dumps(it, separators=(",", ":"))) + 1 for it in found) in CUT_BYTES
 
 
-def test_client_that_reads_no_list_keeps_no_other_one_waiting(long_lists, client):
+def test_client_that_reads_no_list_keeps_no_other_one_waiting(daemon, client, tmp_path):
     """The system lets the metrics listener wait two seconds for each client."""
-    stuck = client(long_lists.metrics, 4096, 536, kind=SlowReader)
+    if not can_trace():
+        pytest.skip(NO_STRACE)
+    trace = tmp_path / "trace"
+    server = start_traced(daemon, [*STRACE, "-o", str(trace), "-e", "trace=setsockopt"], "--shards", "1")
+    make_long_lists(client(server))
+    stuck = client(server.metrics, 4096, 536, kind=SlowReader)
     stuck.send(get(b"", b"/sessions"))
     stuck.receive()
-    with long_lists.accepted(stuck) as it:
-        found = struct.unpack("@ll", it.getsockopt(socket.SOL_SOCKET, socket.SO_SNDTIMEO, struct.calcsize("@ll"))) if it else None
-    long_lists.scrape()
-    if not found:
-        pytest.skip(NO_SOCKETS)
-    assert found == (2, 0)
+    server.scrape()
+    set_times = re.findall(r'SO_SNDTIMEO\w*, "([^"]*)"', trace.read_text(encoding="ascii"))
+    assert set_times and {*set_times} == {r"\2" + r"\0" * 15}

@@ -8,13 +8,12 @@ import shutil
 import socket
 import subprocess
 import time
-import urllib.parse
 
 import pytest
 
 from base import wait_until
-from daemon import CONNECT, HANDSHAKE, MOST_MESSAGES, Connection, ConnectionEnded, expect_error, expect_status, expect_success, get
-from daemon import open_many, open_session, post, post_coded, send_connect, subscribe
+from daemon import CONNECT, FORM, HANDSHAKE, MOST_MESSAGES, Connection, ConnectionEnded, by_callback, by_form, expect_error, expect_status
+from daemon import expect_success, get, open_many, open_session, post, post_coded, send_connect, subscribe
 from documented import documented_errors, documented_reasons, expect_documented
 from metrics import CONNECTS_HELD, FILED, OPEN, OPENED, REFUSED_TICKS, REQUESTS_HELD, SESSIONS, TICKED, ask_for, read_page
 from metrics import wait_for_metrics
@@ -146,7 +145,7 @@ JUDGED = (
 LIMITS = ["--sessions", "3", "--limit", "300", "--body", "60000"]
 REFUSED = "bayeux_requests_refused_total"
 KINDS = ("handshake", "connect", "subscribe", "unsubscribe", "disconnect")
-# The documented reasons that no client can cause here: the last is one of a server that has run for ages.
+# The documented reasons that no client can cause here: those of --no-callback-polling, and one of a server that has run for ages.
 RARE = ("callback-polling is off", "the content type is not application/json", "the clock is out of range")
 
 
@@ -171,8 +170,27 @@ def messages_of(session):
         [{"channel": BOTH, **session}],
         *([{**publish, "channel": it}] for it in ("/counted//", OTHER, "/service/a")),
         [publish] * MOST_MESSAGES,
-        [{"channel": BOTH}] * (MOST_MESSAGES + 1),
+        [{**connect, "advice": {"timeout": 0}}],
     ]
+
+
+# Requests without an effect, and the status and the reason that they get at each listener.
+ANSWERED = [
+    (post(b'[{"channel":"/service/*"}]'), 200, None),
+    (by_form(b"[]", b'{"channel":"/meta/none"}'), 200, None),
+    (by_callback(b'[{"channel":"/service/a"}]'), 200, None),
+    (post(b"["), 400, "the messages are not JSON"),
+    (post(b'[{"channel":"/other"},1]'), 400, "a message is not a JSON object"),
+    (post(b'[{"channel":"/other"},{}]'), 400, "a message has no channel"),
+    (post(json.dumps([{"channel": OTHER}] * (MOST_MESSAGES + 1)).encode()), 400, "too many messages in one request"),
+    (by_callback(b"[]", b"jsonp=a(&"), 400, "the name of the callback is not valid"),
+    (post(b"other=[]", FORM), 400, "the parameter message is missing"),
+    (post(b"[]")[:-1], 400, "the body ended early"),
+    (post(b"[]", path=b"/cometdx"), 404, "Bayeux is at /cometd"),
+    (post(b"[]").replace(b"POST", b"PUT", 1), 405, "the method is neither GET nor POST"),
+    (post(b" " * 60_001), 413, "the request is too large"),
+    (post_coded([b" gzip, chunked"]), 501, "the transfer coding is not chunked"),
+]
 
 
 def cases_of(session):
@@ -181,26 +199,11 @@ def cases_of(session):
     def of(*messages):
         return post(json.dumps(messages).encode())
 
-    def asked(**more):
-        return get(f"?{urllib.parse.urlencode(more)}".encode())
-
     connect, publish = {**CONNECT, **session}, {"channel": BOTH, "data": 1, **session}
     ready = {**connect, "advice": {"timeout": 0}}
-    for request in [
-        *(of(*it) for it in messages_of(session)),
-        of(ready),
-        asked(message=json.dumps([publish, publish]), jsonp="a"),
-        asked(message=json.dumps([ready]), jsonp="a"),
-        asked(message="[]", jsonp="a b"),
-        asked(jsonp="a"),
-        get(b"", b"/"),
-        post_coded([b" gzip, chunked"]),
-        post(b"[]").replace(b"POST", b"PUT", 1),
-        post(b" " * 60_001),
-        *(post(it) for it in (b"[", b"[1]", b"[{}]")),
-        post(b"[]")[:-1],
-    ]:
-        yield [request]
+    yield from ([of(*it)] for it in messages_of(session))
+    yield from ([request] for request, _, _ in ANSWERED)
+    yield from ([by_callback(json.dumps(it).encode())] for it in ([publish, publish], [ready]))
     yield [of(connect), of(ready)]
     for messages in ([publish] * MOST_MESSAGES, [publish] * MOST_MESSAGES, [ready], [{"channel": "/meta/disconnect", **session}]):
         yield [of(*messages)]
@@ -266,10 +269,12 @@ def test_each_response_changes_the_metrics_as_it_says(daemon, client, listener):
     address = server.address if listener == "main" else server.readers
     with client(address) as connection:
         session = open_session(connection)
-    before, texts = server.expect({OPEN: 0, SESSIONS: 1}), set()
+    before, texts, wanted = server.expect({OPEN: 0, SESSIONS: 1}), set(), {request: its for request, *its in ANSWERED}
     for requests in cases_of(session):
         changes = collections.Counter({OPENED: len(requests)})
-        for it in serve(server, address, requests):
+        for request, it in zip(requests, serve(server, address, requests)):
+            reason = it.fields.get(b"bayeux-error", b"").decode() or None
+            assert [it.status, reason] == wanted.get(request, [it.status, reason]), request[:300]
             more, found = count_response(it)
             changes.update(more)
             texts |= found
@@ -288,18 +293,6 @@ def test_each_response_changes_the_metrics_as_it_says(daemon, client, listener):
     }
     assert logged == wanted
     expect_documented(server.full_log())
-
-
-@pytest.mark.parametrize(
-    "request_, reason", [(post(b"[]", b"text/plain"), RARE[1]), (get(b"?message=[]"), RARE[0])], ids=["type", "method"]
-)
-def test_metrics_count_requests_that_are_no_posts_of_json(daemon, request_, reason):
-    server = daemon("--no-callback-polling")
-    before = server.scrape()
-    (response,) = serve(server, server.address, [request_])
-    changes, texts = count_response(response)
-    assert texts == {reason}
-    expect_changes(server, before, changes + collections.Counter([OPENED]), request_)
 
 
 def test_metrics_and_log_count_what_is_refused_after_the_end_of_input(daemon, client, ticks):

@@ -179,14 +179,3 @@ def test_daemon_takes_little_processor_time_while_it_waits(server, client, clock
     clock.add(1)
     for it in waiting:
         expect_status(it, post(b"[]"), 200)
-
-
-def test_held_connect_is_followed_by_the_next_request(server, client):
-    held = server.holder
-    held.send(post(b"[]") + post(b"[]")[:-1])
-    held.wait_until_read()
-    publisher = client(server)
-    publish(publisher, "/held", 1, open_session(publisher))
-    expect_events(held.response().items(), [{"channel": "/held", "data": 1}])
-    assert held.response().items() == []
-    expect_status(held, b"]", 200)

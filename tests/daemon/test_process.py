@@ -2,14 +2,14 @@
 import os
 import pathlib
 import resource
-import socket
 import time
 
 import pytest
 
 from base import read, wait_until
-from daemon import AT_ONCE, NO_SOCKETS, check_serves, expect_status, post
+from daemon import AT_ONCE, check_serves, expect_status, post
 from runs import ANYWHERE
+from strace import NO_STRACE, STRACE, can_trace, start_traced
 
 # Flags with limits, and the limits and times in the metrics.
 LIMITS = ["--limit=3", "--bytes=6000", "--patterns=7", "--sessions=8", "--body=9000", "--shards=2"]
@@ -103,14 +103,13 @@ def test_metrics_show_what_can_be_read_of_the_process(daemon, system, tmp_path, 
     assert found == values
 
 
-def test_small_segments_are_sent_without_delay(daemon, client):
-    server = daemon()
-    connection = client(server)
-    expect_status(connection, post(b"[]"), 200)
-    with server.accepted(connection) as it:
-        if not it:
-            pytest.skip(NO_SOCKETS)
-        assert it.getsockopt(socket.IPPROTO_TCP, socket.TCP_NODELAY) != 0
+def test_small_segments_are_sent_without_delay(daemon, client, tmp_path):
+    if not can_trace():
+        pytest.skip(NO_STRACE)
+    trace = tmp_path / "trace"
+    server = start_traced(daemon, [*STRACE, "-o", str(trace), "-e", "trace=setsockopt"])
+    expect_status(client(server), post(b"[]"), 200)
+    wait_until("the option of the connection", lambda: "TCP_NODELAY, [1]" in trace.read_text(encoding="ascii"))
 
 
 def counts():

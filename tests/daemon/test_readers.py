@@ -2,8 +2,8 @@
 import json
 import re
 
-from daemon import FORM, HANDSHAKE, MOST_MESSAGES, by_callback, by_form, expect_events, expect_status, expect_success, open_session
-from daemon import poll, post, post_coded, publish, subscribe
+from daemon import HANDSHAKE, MOST_MESSAGES, by_callback, by_form, expect_events, expect_status, expect_success, open_session, poll, post
+from daemon import publish, subscribe
 
 READ_ONLY = "the listener is read-only"
 # The most bytes of a body.
@@ -31,41 +31,18 @@ FORBIDDEN = [
     by_callback(in_array(OPEN, PUBLISH), b""),
     *(post(b'[{"channel":"%s"}]' % it) for it in (b"/meta", b"", b"/a b", b"/**", rb"\/a")),
 ]
-# Requests that get the same status, and the same reason, at each listener.
-AT_EACH_LISTENER = [
-    (post(in_array()), 200),
-    (by_form(in_array(OPEN), META), 200),
-    (by_callback(in_array(SERVICE, META)), 200),
-    (post(b'[{"channel":"/service/*"}]'), 200),
-    (post(in_array(PUBLISH)[:-1]), 400, "the messages are not JSON"),
-    (post(in_array(PUBLISH, b"1")), 400, "a message is not a JSON object"),
-    (post(in_array(PUBLISH, b"{}")), 400, "a message has no channel"),
-    (post(in_array(*[PUBLISH] * (MOST_MESSAGES + 1))), 400, "too many messages in one request"),
-    (by_callback(PUBLISH, b"jsonp=a(&"), 400, "the name of the callback is not valid"),
-    (post(b"other=" + PUBLISH, FORM), 400, "the parameter message is missing"),
-    (post(in_array(PUBLISH), path=b"/cometdx"), 404, "Bayeux is at /cometd"),
-    (post(in_array(PUBLISH)).replace(b"POST", b"PUT", 1), 405, "the method is neither GET nor POST"),
-    (post_coded([b" gzip, chunked"], body=PUBLISH), 501, "the transfer coding is not chunked"),
-    (b"POST /cometd HTTP/1.1\r\nhost: h\r\ncontent-length: %d\r\n\r\n" % (LIMIT + 1), 413, "the request is too large"),
-]
 
 
 def test_message_to_a_broadcast_channel_is_rejected_as_a_whole(daemon, client):
     """Nothing of such a request is admitted, in any form and with the message at any place, and the connection stays open."""
     server = daemon("--readers", "127.0.0.1:0")
-    connection = client(server.readers)
+    connection, main = client(server.readers), client(server)
     for request in FORBIDDEN:
         expect_status(connection, request, 403, READ_ONLY)
     expect_success(connection.ask([HANDSHAKE]), 1)
     server.expect({("bayeux_requests_admitted_total", ""): 1, ("bayeux_sessions_opened_total", ""): 1})
-
-
-def test_other_requests_get_the_same_responses_at_both_listeners(daemon, client):
-    server = daemon("--readers", "127.0.0.1:0")
-    for address, cases in ((server.readers, AT_EACH_LISTENER), (server.address, [*AT_EACH_LISTENER, *((it, 200) for it in FORBIDDEN)])):
-        for case in cases:
-            with client(address) as connection:
-                expect_status(connection, *case)
+    for request in FORBIDDEN:
+        expect_status(main, request, 200)
 
 
 def test_channels_that_a_pattern_matches_are_allowed(daemon, client):

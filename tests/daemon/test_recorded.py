@@ -15,6 +15,7 @@ import pytest
 
 from base import has_compiler, readable, wait_until
 from daemon import CONNECT, FORM, HANDSHAKE, Connection, check_serves, get, post
+from documents import VALUES, message
 from recording import Check, read_record
 
 RUNS = {
@@ -29,15 +30,7 @@ CLIENTS, TURNS, MANY_TURNS, BATCH = 8, 60, 3000, 40
 EXPIRING, SILENT, RESTS = ["--timeout", "2s", "--max-interval", "3s"], 3, 15.0
 # A mark: the id of the first message of a request. Each request has another one.
 MARK = re.compile(rb"q-[0-9]+-[0-9]+-")
-DATA = ["", "text", "a%41+b&c=d", "\u2028 and \u2029", "\U0001f600 \u00e4", {"n": [1, 2.5e3, None], "more": {"a": 1, "b": "%0A+"}}, "x" * 300]
-REFUSED = [
-    {"channel": "/a b", "data": 1},
-    {"channel": "/meta/unknown"},
-    {"channel": "/r/1", "data": "x", "clientId": "0" * 48},
-    {"channel": "/r/1", "data": "without a client"},
-    {"channel": "/meta/subscribe", "subscription": "/a/**/b"},
-    {"channel": "/meta/handshake", "version": "1.0", "supportedConnectionTypes": ["none\u2028"]},
-]
+DATA = [*VALUES, "a%41+b&c=d", "\U0001f600 \u00e4", {"more": {"a": 1, "b": "%0A+"}}, "x" * 300]
 CALLBACK = b"a.b[0]"
 # How to send documents: as they are, with line ends between members, as a form with an empty document, or as a query with a callback.
 WAYS = [
@@ -68,11 +61,8 @@ class Client(threading.Thread):
         listeners = [server.address, *([server.readers] if "--readers" in server.process.args else [])]
         self.address, self.connect_address = (listeners[it % len(listeners)] for it in (number, number + 1))
         self.number, self.server, self.clock, self.finish, self.turns = number, server, clock, finish, turns
-        # A silent client gets no events, and rests.
-        self.is_silent, self.is_reader, self.random = number % 4 == 0, self.address != server.address, random.Random(number)
-        # The mark of the held connect, or `None`.
-        self.count, self.seen, self.wrong, self.held = 0, {}, None, None
-        self.id, self.acknowledged, self.is_unknown = "0" * 48, 0, False
+        # `held`: the mark of the held connect, or `None`.
+        self.random, self.count, self.seen, self.wrong, self.held = random.Random(number), 0, {}, None, None
 
     def run(self):
         """Takes all turns."""
@@ -85,14 +75,11 @@ class Client(threading.Thread):
 
     def work(self):
         self.open()
-        self.repeat()
         for turn in range(self.turns):
-            if self.is_unknown:
-                self.open()
             self.random.choice(CHOICES)(self)
             self.take()
-            if self.is_silent and self.clock.seconds < RESTS * turn / self.turns:
-                # The session expires.
+            if self.number % 4 == 0 and self.clock.seconds < RESTS * turn / self.turns:
+                # Meanwhile sessions expire.
                 self.take_held()
                 self.clock.tick(10 * SILENT + 5)
         self.finish.wait()
@@ -106,56 +93,53 @@ class Client(threading.Thread):
         self.seen[mark.encode()] = response.status, digest_of(response)
         return response
 
-    def mark(self):
-        """Returns a new id for a message. No other message has it."""
+    def marked(self, messages, way=None):
+        """Returns a new mark, and a request of `messages` that has it. `way`: how to send them, by default at random."""
         self.count += 1
-        return f"q-{self.number}-{self.count}-"
-
-    def send(self, request):
-        """Sends a request, and returns the response."""
-        self.requests.renew()
-        self.requests.send(request)
-        return self.requests.response()
+        mark = f"q-{self.number}-{self.count}-"
+        document = json.dumps([{**messages[0], "id": mark}, *messages[1:]], ensure_ascii=False)
+        return mark, (way or self.random.choice(WAYS))(document.encode())
 
     def ask(self, messages, way=None):
-        """Sends `messages`, and returns the response. `way`: how to send them, by default at random."""
-        mark = self.mark()
-        messages = [{**messages[0], "id": mark}, *messages[1:]]
-        response = self.keep(mark, self.send((way or self.random.choice(WAYS))(json.dumps(messages, ensure_ascii=False).encode())))
-        is_forbidden = self.is_reader and any(not it["channel"].startswith(("/meta/", "/service/")) for it in messages)
-        # A daemon answers with 503 if its window is full.
-        assert response.status in (403 if is_forbidden else 200, 503), messages
-        self.is_unknown = b"402::" in response.body
-        return response
+        """Sends `messages`, and returns the response."""
+        mark, request = self.marked(messages, way)
+        self.requests.renew()
+        self.requests.send(request)
+        return self.keep(mark, self.requests.response())
 
-    def open(self, share=0.5):
-        """Opens a session and subscribes. `share`: the probability that the session acknowledges."""
-        ext = {"ext": {"ack": True}} if self.random.random() < share else {}
-        reply = self.ask([{**HANDSHAKE, **ext}], post).items()[-1]
-        self.id, self.acknowledged = reply.get("clientId", self.id), 0
-        channels = self.random.sample(["/r/1", "/r/2", "/r/*", "/r/**", f"/r/{self.number}/x"], 2)
-        channels = ["/unheard"] if self.is_silent else channels
-        self.ask([{"channel": "/meta/subscribe", "subscription": channels, "clientId": self.id}])
+    def open(self):
+        """Opens a session, which sometimes acknowledges, and subscribes."""
+        ext = {"ext": {"ack": True}} if self.random.random() < 0.5 else {}
+        # A daemon answers with 503 if its window is full.
+        while (response := self.ask([{**HANDSHAKE, **ext}], post)).status == 503:
+            pass
+        self.id, self.acknowledged = response.items()[-1]["clientId"], 0
+        self.ask([{"channel": "/meta/subscribe", "subscription": self.random.sample(PATTERNS, 2), "clientId": self.id}])
 
     def publish(self):
         """Sends a request of several publishes."""
-        channel = self.random.choice(["/r/1", "/r/2", f"/r/{self.number}/x", "/quiet", "/service/r", "/quiet"])
+        channel = self.random.choice(["/a", "/a/b", "/a/b/c", "/service/x"])
         self.ask([{"channel": channel, "data": self.random.choice(DATA), "clientId": self.id} for _ in range(self.random.randint(1, BATCH))])
+
+    def send_some(self):
+        """Sends a request of random messages, right and wrong. None of them is held, since nothing else follows on its connection."""
+        made = [message(self.random, [self.id, "x", "x"]) for _ in range(self.random.randint(1, 9))]
+        self.ask([{**it, "advice": {"timeout": 0}} if it["channel"] == "/meta/connect" else it for it in made])
 
     def connect(self):
         """Sends a connect on the second connection, unless one is held there. It acknowledges the last batch, nothing, or the one before."""
         self.take()
         if self.held:
             return
-        self.held = self.mark()
-        message = {**CONNECT, "clientId": self.id, "id": self.held}
+        connect = {**CONNECT, "clientId": self.id}
         acknowledged = self.random.choice([self.acknowledged] * 3 + [None] * 2 + [max(self.acknowledged - 1, 0)])
         if acknowledged is not None:
-            message["ext"] = {"ack": acknowledged}
+            connect["ext"] = {"ack": acknowledged}
         if self.random.random() < 0.3:
-            message["advice"] = {"timeout": 0}
+            connect["advice"] = {"timeout": 0}
+        self.held, request = self.marked([connect])
         self.connects.renew()
-        self.connects.send(self.random.choice(WAYS)(json.dumps([message]).encode()))
+        self.connects.send(request)
 
     def take(self):
         """Reads the response to the held connect, if it has arrived."""
@@ -174,45 +158,15 @@ class Client(threading.Thread):
                     self.clock.tick()
                     self.server.wait_for_rest()
 
-    def repeat(self):
-        """Gets a batch, acknowledges nothing, and so gets the batch again."""
-        if self.is_silent:
-            return
-        self.open(share=1.0)
-        channel, session = f"/r/{self.number}/again", {"clientId": self.id}
-        self.ask([{"channel": "/meta/subscribe", "subscription": channel, **session}, {"channel": channel, "data": "again", **session}])
-        for members in ({"ext": {"ack": 0}}, {}, {}):
-            self.ask([{"channel": "/meta/connect", "advice": {"timeout": 0}, **session, **members}])
-
-    def refuse(self):
-        """Sends a message that is rejected."""
-        self.ask([self.random.choice(REFUSED)])
-
-    def refuse_whole(self):
-        """Sends a request that is rejected as a whole."""
-        mark = self.mark()
-        self.keep(mark, self.send(post(b'[{"channel":"/a","data":1,"id":"%s"},' % mark.encode())))
-
-    def ask_nothing(self):
-        """Sends a request without messages."""
-        assert self.send(post(b"[]")).body == b"[]"
-
-    def leave(self):
-        """Sometimes ends the session, and sometimes opens another one."""
-        if self.random.random() < 0.3:
-            self.ask([{"channel": "/meta/disconnect", "clientId": self.id}])
-        if self.random.random() < 0.5:
-            self.open()
-
     def cut(self):
         """Sends all or most of a publish on a new connection, and closes it before the response."""
-        data = post(json.dumps([{"channel": "/r/1", "data": "cut", "clientId": self.id, "id": self.mark()}]).encode())
+        _, data = self.marked([{"channel": "/a/b", "data": "cut", "clientId": self.id}], post)
         with Connection(self.address) as connection:
             connection.send(data[: self.random.choice([len(data) - 9, len(data)])])
 
 
-CHOICES = [Client.publish] * 6 + [Client.connect] * 4
-CHOICES += [Client.refuse, Client.refuse_whole, Client.ask_nothing, Client.leave, Client.cut, Client.repeat]
+PATTERNS = ["/a/b", "/a/*", "/a/**", "/**", "/unheard"]
+CHOICES = [Client.publish] * 6 + [Client.connect] * 4 + [Client.send_some] * 3 + [Client.open] * 2 + [Client.cut]
 
 
 @pytest.fixture(scope="module", autouse=True)

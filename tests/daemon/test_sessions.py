@@ -5,16 +5,14 @@ import json
 import pytest
 
 from chacha import drawn
-from daemon import AT_ONCE, CONNECT, FORM, HANDSHAKE, MOST_MESSAGES, SEED, by_callback, by_form, check_serves, close_all, expect_error
-from daemon import expect_events, expect_status, expect_success, get, hold_connect, open_many, open_session, poll, post, post_coded, publish
+from daemon import AT_ONCE, CONNECT, HANDSHAKE, MOST_MESSAGES, SEED, by_callback, by_form, check_serves, close_all, expect_error
+from daemon import expect_events, expect_status, expect_success, get, hold_connect, open_many, open_session, poll, post, publish
 from daemon import send_connect, subscribe
 from metrics import CONNECTS_HELD, FILED, REQUESTS_HELD, SESSIONS, read_list
 
 CHANNEL = "/loopback"
 # Positional arguments, which have no names.
 ARGUMENTS = ["127.0.0.1:0", "2", "30000", "0", "600000", SEED]
-# The most bytes of a body.
-LIMIT = 1 << 20
 # The most sessions that may live, and the most of them that a list shows.
 MOST, MOST_LISTED = 65_536, 1000
 # How often work is measured.
@@ -154,72 +152,22 @@ def test_work_of_the_most_sessions_costs_no_more_than_with_a_thousand(daemon, cl
     expect_limit_of_sessions(servers[0], connections[0], MOST)
 
 
-# The ways to send a document, and the texts around the JSON in the response.
-WAYS = [(post, b"", b""), (by_form, b"", b""), (by_callback, b"called(", b")")]
-# Requests without a valid message, their statuses, and whether they reach the hub.
-REQUESTS = [
-    (get(b"?message=[]", b"/cometdx"), 404, False),
-    (get(b"?message=[]", b"/"), 404, False),
-    (b"PUT /cometd HTTP/1.1\r\nhost: h\r\ncontent-length: 0\r\n\r\n", 405, False),
-    (b"DELETE /cometd/handshake HTTP/1.1\r\nhost: h\r\n\r\n", 405, False),
-    (get(b""), 400, False),
-    (get(b"?jsonp=called"), 400, False),
-    (get(b"?message=[]&jsonp=a(b"), 400, False),
-    (post(b"other=[]", FORM), 400, False),
-    (post(b"["), 400, True),
-    (post(b"message=[1]", FORM), 400, True),
-    (get(b"?message={}"), 400, True),
-    (post(b"[]"), 200, True),
-    (post(b"[]", path=b"/cometd/handshake"), 200, True),
-    (post(b"message=[]&other=1&message=[]", FORM, b"/cometd/x"), 200, True),
-    (post_coded([b" chunked"], body=b"[%s]" % (b" " * (LIMIT - 2))), 200, True),
-]
-
-
-@pytest.fixture
-def seed_file(tmp_path):
-    """The path of a file with `SEED`."""
-    path = tmp_path / "seed"
-    path.write_text(f"{SEED.upper()}\n", encoding="ascii")
-    return path
-
-
-def expect_id(connection, way, number, place):
-    """Checks the client id of a handshake. `way`: one of `WAYS`. `number`: the session's. `place`: the number of the nonce."""
-    request, prefix, suffix = way
-    body = expect_status(connection, request(json.dumps([HANDSHAKE]).encode()), 200)
-    assert body.startswith(prefix) and body.endswith(suffix)
-    found = expect_success(json.loads(body[len(prefix) : len(body) - len(suffix)]), 1)[0]["clientId"]
-    assert found == f"{drawn(SEED, place)}{number:016x}", f"drawn at {place}"
-
-
-def test_requests_that_reach_the_hub_take_a_nonce(daemon, client, seed_file):
-    """Client ids are those that ChaCha20 gives for the seed."""
-    server = daemon("--connections", "3", "--seed-file", str(seed_file))
-    connection, declared, chunked = client(server), client(server), client(server)
-    places, numbers, ways = itertools.count(), itertools.count(1), itertools.cycle(WAYS)
-    for request, status, reaches_hub in REQUESTS:
-        expect_id(connection, next(ways), next(numbers), next(places))
-        assert expect_status(connection, request, status) in (b"[]", b"")
-        if reaches_hub:
-            next(places)
-    # A body that is too long ends the connection.
-    expect_status(declared, b"POST /cometd HTTP/1.1\r\nhost: h\r\ncontent-length: %d\r\n\r\n" % (LIMIT + 1), 413)
-    expect_status(chunked, post_coded([b" chunked"], body=b"[%s]" % (b" " * (LIMIT - 1))), 413)
-    for way in reversed(WAYS):
-        expect_id(connection, way, next(numbers), next(places))
-    for it in (connection, declared, chunked):
-        it.socket.close()
-    server.expect_end()
+# The ways to send a handshake, and the texts around the JSON in the response.
+WAYS = [(post, b"", b""), (by_callback, b"called(", b")"), (by_form, b"", b"")]
 
 
 @pytest.mark.parametrize("order", ["main", "readers", "main readers", "readers main", "readers readers", "readers main readers main"])
-def test_listeners_share_nonces_and_the_limit_of_connections(daemon, client, seed_file, order):
+def test_listeners_share_nonces_and_the_limit_of_connections(daemon, client, tmp_path, order):
+    """Client ids are those that ChaCha20 gives for the seed."""
+    (tmp_path / "seed").write_text(f"{SEED.upper()}\n", encoding="ascii")
     order = order.split()
-    server = daemon("--connections", str(len(order)), "--readers", "localhost:0", "--seed-file", str(seed_file))
+    server = daemon("--connections", str(len(order)), "--readers", "localhost:0", "--seed-file", str(tmp_path / "seed"))
     connections = [client(server.readers if it == "readers" else server) for it in order]
-    for place, (connection, way) in enumerate(zip(connections, itertools.cycle([WAYS[0], WAYS[2], WAYS[1]]))):
-        expect_id(connection, way, place + 1, place)
+    for place, (connection, (request, before, after)) in enumerate(zip(connections, itertools.cycle(WAYS))):
+        body = expect_status(connection, request(json.dumps([HANDSHAKE]).encode()), 200)
+        assert body.startswith(before) and body.endswith(after)
+        (reply,) = expect_success(json.loads(body.removeprefix(before).removesuffix(after)), 1)
+        assert reply["clientId"] == f"{drawn(SEED, place)}{place + 1:016x}"
     for it in connections:
         it.socket.close()
     server.expect_end()

@@ -1,8 +1,8 @@
-"""What a daemon does as time passes: ticks, answers that nobody takes, ages, holds, expiry, and moments after fifty days."""
+"""What a daemon does as time passes: ticks, answers that nobody takes, ages, holds, and expiry."""
 import time
 
 from base import wait_until
-from daemon import OWN_PAGES, expect_error, expect_events, expect_success, hold_connect, open_session, poll, publish, send_connect, subscribe
+from daemon import OWN_PAGES, expect_error, expect_success, open_session, publish, send_connect, subscribe
 from metrics import CONNECTS_HELD, FILED, OPEN, REQUESTS_HELD, SESSIONS, SWEPT, TICKED, UPTIME, read_list
 
 CHANNEL = "/time"
@@ -12,9 +12,6 @@ LIVE, SHARDS = 17, 16
 CROWDED, KEPT = 10, 600
 # The number of large answers, and their bytes.
 LARGE, BYTES = 32, 200_000
-# How far the clocks are put forward, in seconds: fifty days, which are more than 2^32 milliseconds. By how many seconds an age or an
-# uptime may differ on a slow machine.
-AHEAD, AGES = 50 * 86_400, 3600
 
 
 def leave_answers(server, client, sessions, ticks, events=(("/all", 1),)):
@@ -140,38 +137,6 @@ def moments_of(record):
     """Returns the moment of each complete line of a record, in milliseconds, and the rest of the line."""
     lines = [it.partition(b" ") for it in record.read_bytes().split(b"\n")[1:-1]]
     return [(int(moment), rest) for moment, _, rest in lines]
-
-
-def test_moments_have_more_than_32_bits_after_fifty_days(daemon, client, clock_ahead, tmp_path):
-    """Connects are held and get events, and the record, the uptime and the ages of sessions are right."""
-    record = tmp_path / "record"
-    server = daemon("--shards", "2", "--record", str(record), env=clock_ahead.env)
-    with client(server) as connection:
-        old = open_session(connection)
-    clock_ahead.add(AHEAD)
-    first = wait_until("a tick", lambda: server.scrape()[UPTIME] >= AHEAD and server.scrape()[TICKED])
-    wait_until("more ticks", lambda: server.scrape()[TICKED] >= first + 3)
-    connection = client(server)
-    expect_error(poll(connection, old), "402::Unknown client")
-    session = open_session(connection)
-    held = [hold_connect(server.address, "/days") for _ in range(4)]
-    server.expect({CONNECTS_HELD: len(held)})
-    ticked = server.scrape()[TICKED]
-    wait_until("ticks meanwhile", lambda: server.scrape()[TICKED] >= ticked + 3)
-    server.expect({CONNECTS_HELD: len(held), SESSIONS: len(held) + 1})
-    publish(connection, "/days", 1, session)
-    for it in held:
-        expect_events(it.response().items(), [{"channel": "/days", "data": 1}])
-        it.socket.close()
-    ages, uptime = [it["age_seconds"] for it in read_list(server.metrics, b"/sessions")], server.scrape()[UPTIME]
-    connection.socket.close()
-    server.close()
-    assert len(ages) == len(held) + 1 and max(ages) <= AGES
-    assert AHEAD <= uptime <= AHEAD + AGES
-    moments = [moment for moment, _ in moments_of(record)]
-    early = [it for it in moments if it <= 1000 * AGES]
-    late = [it for it in moments if 1000 * AHEAD <= it <= 1000 * (AHEAD + AGES)]
-    assert early and len(late) >= 6 and moments == early + late
 
 
 def test_ticks_are_a_tenth_of_a_second_apart(daemon, tmp_path):

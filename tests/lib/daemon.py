@@ -1,6 +1,5 @@
 """A daemon that runs, connections to it, and requests and their responses."""
 import contextlib
-import ctypes
 import datetime
 import fcntl
 import json
@@ -20,9 +19,6 @@ from base import TIMEOUT_SECONDS, end, readable, wait_until
 SEED = bytes(range(1, 33)).hex()
 # The most messages of a request, and how many requests are sent at a time.
 MOST_MESSAGES, AT_ONCE = 256, 200
-# The number of the system call `pidfd_getfd`, for which Python has no function.
-PIDFD_GETFD = 438
-NO_SOCKETS = "the system does not show the sockets of other processes"
 # With this environment, each large body or event has pages of its own, which the system gets back once it is freed, and all threads
 # have the other memory in common. So the resident memory does not depend on which thread served a request.
 OWN_PAGES = {"MALLOC_MMAP_THRESHOLD_": "65536", "MALLOC_ARENA_MAX": "1"}
@@ -100,22 +96,6 @@ class Daemon:
     def descriptors(self):
         """Returns how many file descriptors the process has open."""
         return len(os.listdir(f"/proc/{self.process.pid}/fd"))
-
-    @contextlib.contextmanager
-    def accepted(self, connection):
-        """The daemon's own socket of `connection`, or `None` if the system does not show the sockets of other processes."""
-        process, call = os.pidfd_open(self.process.pid), ctypes.CDLL(None).syscall
-        with contextlib.ExitStack() as stack:
-            stack.callback(os.close, process)
-            for name in os.listdir(f"/proc/{self.process.pid}/fd"):
-                # The call returns -1 for a descriptor that is closed by now, or if it is not allowed. A listener has no peer.
-                with contextlib.suppress(OSError, ValueError):
-                    if os.readlink(f"/proc/{self.process.pid}/fd/{name}").startswith("socket:"):
-                        found = stack.enter_context(socket.socket(fileno=call(PIDFD_GETFD, process, int(name), 0)))
-                        if found.getpeername() == connection.socket.getsockname():
-                            yield found
-                            return
-            yield None
 
     @contextlib.contextmanager
     def without_descriptors(self):
@@ -294,19 +274,17 @@ class Connection:
 
 
 class SlowReader(Connection):
-    """A connection whose client has a `buffer` of few bytes, and segments of at most `segment` bytes, if given."""
+    """A connection of IPv4 whose client has a `buffer` of few bytes, and segments of at most `segment` bytes, if given."""
 
     def __init__(self, address, buffer, segment=None):
-        self.buffer, self.segment = buffer, segment
+        self.options = [(socket.SOL_SOCKET, socket.SO_RCVBUF, buffer), *([(socket.IPPROTO_TCP, socket.TCP_MAXSEG, segment)] if segment else [])]
         super().__init__(address)
 
     def open(self):
-        self.input, self.was_reset = b"", False
-        self.socket = socket.socket()
+        self.input, self.was_reset, self.socket = b"", False, socket.socket()
         self.socket.settimeout(self.timeout)
-        if self.segment:
-            self.socket.setsockopt(socket.IPPROTO_TCP, socket.TCP_MAXSEG, self.segment)
-        self.socket.setsockopt(socket.SOL_SOCKET, socket.SO_RCVBUF, self.buffer)
+        for it in self.options:
+            self.socket.setsockopt(*it)
         self.socket.connect(self.address)
 
 

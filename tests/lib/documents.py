@@ -74,46 +74,29 @@ def joined(bodies):
     return [message for part in found for message in part]
 
 
-def check_reply(message, reply):
-    """Checks that `reply` is a valid reply to `message`."""
-    wanted = message.get("id")
-    is_repeated = isinstance(wanted, (str, int, float)) and not isinstance(wanted, bool)
-    assert (reply["channel"], "id" in reply) == (message["channel"], is_repeated), (message, reply)
-    assert not is_repeated or reply["id"] == wanted, (message, reply)
-    assert ("error" not in reply) if reply["successful"] is True else ERROR.fullmatch(reply["error"]), reply
-
-
 def check_items(messages, items):
-    """Checks that `items` are the replies to `messages` in order. There may be events between the replies."""
-    replies = [item for item in items if "successful" in item]
-    assert len(replies) == len(messages)
-    for message, reply in zip(messages, replies):
-        check_reply(message, reply)
+    """Checks that `items` are valid replies to `messages` in order. There may be events between the replies."""
+    replies = [it for it in items if "successful" in it]
+    assert [it["channel"] for it in replies] == [it["channel"] for it in messages]
+    for wanted, reply in zip(messages, replies):
+        has_id = isinstance(wanted.get("id"), (str, int, float)) and not isinstance(wanted["id"], bool)
+        assert ("id" in reply) == has_id and (not has_id or reply["id"] == wanted["id"]), (wanted, reply)
+        assert ("error" not in reply) if reply["successful"] is True else ERROR.fullmatch(reply["error"]), reply
     assert all({"channel", "data"} <= set(it) <= {"channel", "data", "id"} for it in items if "successful" not in it), items
 
 
-def check_status(response, wanted):
-    """Checks the status. An error response has no body."""
-    assert response.status == wanted, response.body[:200]
-    assert wanted == 200 or not response.body
+def check_response(messages, response, name=None):
+    """Checks the response to a request with `messages`, or the error response to one that is not valid if they are `None`.
 
-
-def check_post(messages, response):
-    """Checks the response to a POST of `messages`, or of a request that is not valid if it is `None`."""
-    check_status(response, 400 if messages is None else 200)
-    if messages is not None:
-        assert response.fields[b"content-type"] == b"application/json;charset=UTF-8"
-        check_items(messages, response.items())
-
-
-def check_call(name, messages, response):
-    """Checks that `response` calls `name` with the answer to `messages`, or is a 400 if `name` is not valid or `messages` is `None`."""
-    is_valid = messages is not None and NAME.fullmatch(name)
-    check_status(response, 200 if is_valid else 400)
-    if is_valid:
-        head = name.encode() + b"("
-        assert response.fields[b"content-type"] == b"application/javascript;charset=UTF-8" and response.body.startswith(head)
-        check_items(messages, json.loads(response.body[len(head) : response.body.rindex(b")")]))
+    `name`: that of the callback, which may not be valid either, or `None`.
+    """
+    if messages is None or not (name is None or NAME.fullmatch(name)):
+        assert (response.status, response.body) == (400, b"")
+        return
+    kind, before, after = ("json", b"", b"") if name is None else ("javascript", name.encode() + b"(", b")")
+    assert (response.status, response.fields[b"content-type"]) == (200, f"application/{kind};charset=UTF-8".encode()), response.body[:200]
+    assert response.body.startswith(before) and response.body.endswith(after)
+    check_items(messages, json.loads(response.body[len(before) : len(response.body) - len(after)]))
 
 
 def message(random, clients, wrong=0.2):
@@ -153,8 +136,8 @@ def document(random, clients):
     return text.encode("utf-8", "replace")
 
 
-def broken(random, body):
-    """Returns `body` with some bytes changed, removed, or added. Many of them are JSON tokens."""
+def broken(random, body, tokens=TOKENS):
+    """Returns `body` with some bytes changed, removed, or added. Many of them are `tokens`."""
     made = bytearray(body)
     for _ in range(random.choice((1, 1, 1, 2, 3, 8))):
         at, end = sorted((random.randrange(len(made) + 1), random.randrange(len(made) + 1)))
@@ -164,9 +147,9 @@ def broken(random, body):
         elif way == 1:
             del made[at : at + random.choice((1, 1, 2, 9))]
         elif way == 2:
-            made[at:at] = random.choice(TOKENS)
+            made[at:at] = random.choice(tokens)
         elif way == 3:
-            made[at : at + 1] = random.choice(TOKENS)
+            made[at : at + 1] = random.choice(tokens)
         elif way == 4:
             made[at:at] = made[at:end][:300]
         elif way == 5:
@@ -211,7 +194,7 @@ def post_case(random, clients):
     body = some(random, clients)
     messages = messages_of(body)
     kind = random.choice((b"application/json", b"application/json;charset=UTF-8", b"text/plain", b"", b"\xff"))
-    return post(body, kind, random.choice((b"/cometd", b"/cometd/", b"/cometd/x?y"))), lambda it: check_post(messages, it)
+    return post(body, kind, random.choice((b"/cometd", b"/cometd/", b"/cometd/x?y"))), lambda it: check_response(messages, it)
 
 
 def form_case(random, clients):
@@ -219,7 +202,7 @@ def form_case(random, clients):
     body = parameters(random, clients)
     _, messages = read_parameters(body)
     kind = random.choice((b"application/x-www-form-urlencoded", b"Application/X-WWW-form-urlencoded ; charset=UTF-8"))
-    return post(body, kind), lambda it: check_post(messages, it)
+    return post(body, kind), lambda it: check_response(messages, it)
 
 
 def get_case(random, clients):
@@ -228,7 +211,7 @@ def get_case(random, clients):
     while len(query) > HEAD:
         query = parameters(random, clients)
     name, messages = read_parameters(query)
-    return b"GET /cometd?%s HTTP/1.1\r\nhost: h\r\n\r\n" % query, lambda it: check_call(name, messages, it)
+    return b"GET /cometd?%s HTTP/1.1\r\nhost: h\r\n\r\n" % query, lambda it: check_response(messages, it, name)
 
 
 def nested_case(random, _clients):
@@ -237,4 +220,4 @@ def nested_case(random, _clients):
     body = b'[{"channel":"/a/b","clientId":"x","data":%s}]' % nested(random, levels).encode()
     body = body[: -random.choice((0, 0, 0, 1, 2, levels)) or None]
     messages = messages_of(body)
-    return post(body), lambda it: check_post(messages, it)
+    return post(body), lambda it: check_response(messages, it)

@@ -3,6 +3,7 @@ from __future__ import annotations
 
 import collections
 import dataclasses
+import http.server
 import json
 import socket
 import socketserver
@@ -69,7 +70,7 @@ class Server(socketserver.ThreadingTCPServer):
         self.clock, self.deed, self.changed, self.published = clock, deed, threading.Condition(), 0
         self.sessions: dict[str, Session] = {}
         self.messages: list[list] = []
-        self.heads: list[tuple[list[str], int]] = []
+        self.heads: list[tuple[str, dict[str, str]]] = []
         self.delivered: list[tuple[dict, float, str]] = []
         self.delayed: list[dict] = []
         self.taken: dict[str, list[float]] = collections.defaultdict(list)
@@ -161,36 +162,33 @@ class Server(socketserver.ThreadingTCPServer):
         return self.clock.seconds
 
 
-class Handler(socketserver.StreamRequestHandler):
+class Handler(http.server.BaseHTTPRequestHandler):
     """A connection to the server."""
 
-    disable_nagle_algorithm = True
+    protocol_version, disable_nagle_algorithm = "HTTP/1.1", True
     server: Server
 
-    def handle(self) -> None:
-        while True:
-            head = []
-            while (line := self.rfile.readline()) not in (b"\r\n", b""):
-                head.append(line.decode("ascii").rstrip("\r\n"))
-            if not line:
+    def log_message(self, format: str, *args: object) -> None:  # pylint: disable=redefined-builtin
+        """Logs nothing."""
+
+    def do_POST(self) -> None:  # pylint: disable=invalid-name
+        """Keeps the message, and answers it."""
+        server = self.server
+        (message,) = json.loads(self.rfile.read(int(self.headers["content-length"])))
+        with server.changed:
+            if len(server.messages) >= MOST_MESSAGES:
+                self.close_connection = True
                 return
-            length = next(int(it.partition(":")[2]) for it in head if it.startswith("content-length:"))
-            (message,) = json.loads(self.rfile.read(length))
-            server = self.server
-            with server.changed:
-                if len(server.messages) >= MOST_MESSAGES:
-                    return
-                arrived = server.step()
-                entry = [message, arrived, None]
-                server.heads.append((head, length))
-                server.messages.append(entry)
-                if message["channel"] == "/meta/connect":
-                    server.taken[message["clientId"]].append(arrived)
-                server.changed.notify_all()
-            server.before(message)
-            with server.changed:
-                items = server.answer(message)
-                entry[2] = sent = server.step()
-                server.delivered += [(it, sent, message["clientId"]) for it in items[:-1]]
-            if not server.send(self.request, message, items):
-                return
+            arrived = server.step()
+            entry = [message, arrived, None]
+            server.heads.append((self.requestline, dict(self.headers.items())))
+            server.messages.append(entry)
+            if message["channel"] == "/meta/connect":
+                server.taken[message["clientId"]].append(arrived)
+            server.changed.notify_all()
+        server.before(message)
+        with server.changed:
+            items = server.answer(message)
+            entry[2] = sent = server.step()
+            server.delivered += [(it, sent, message["clientId"]) for it in items[:-1]]
+        self.close_connection = not server.send(self.request, message, items)

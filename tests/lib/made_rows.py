@@ -47,6 +47,16 @@ def listed(text, count):
     return ",".join([text] * count)
 
 
+def answered(*pairs):
+    """Returns the script and the expected output of requests that are answered in turn: pairs of a body and what is printed."""
+    return "".join(f"0 P {body}\n" for body, _ in pairs), "".join(f"{line} {printed}\n" for line, (_, printed) in enumerate(pairs, 1))
+
+
+def handshakes(*numbers):
+    """Returns pairs for `answered`, of handshakes that open the sessions `numbers`."""
+    return [("[<handshake>]", f"200 [<opened {it:x}>]") for it in numbers]
+
+
 def ends():
     """Yields an empty script, and one that does not end with a line end."""
     yield "a script without lines", "", ""
@@ -61,72 +71,61 @@ def million_lines():
 def fronts():
     """Yields each proper prefix of a body: the whole request is rejected."""
     body = expand_macros('[{"channel":"/a/b","clientId":"<client 1>","data":1,"data":{"a" : 1.50},"id":"q"}]')
-    tried = "".join(f"0 P {body[:length]}\n" for length in range(len(body)))
-    refused = "".join(f"{length + 2} 400\n" for length in range(len(body)))
-    handshake = "0 P [<handshake>]\n"
-    yield "each front of a body", f"{handshake}{tried}{handshake}", f"1 200 [<opened 1>]\n{refused}{len(body) + 2} 200 [<opened 2>]\n"
+    yield "each front of a body", *answered(*handshakes(1), *((body[:length], "400") for length in range(len(body))), *handshakes(2))
 
 
-def as_many_patterns(line):
-    """Returns 16 subscriptions after which session 1 has the greatest number of patterns, and their replies from `line` on."""
-    script, expected = "", ""
-    for number in range(line, line + 16):
-        members = '<meta subscribe 1>,"subscription":[%s]' % ",".join(f'"/{number}/{index}"' for index in range(64))
-        script += f"0 P [{{{members}}}]\n"
-        expected += f'{number} 200 [{{{members},"successful":true}}]\n'
-    return script, expected
+def as_many_patterns():
+    """Returns pairs for `answered`, of 16 subscriptions after which session 1 has the greatest number of patterns."""
+    lists = [",".join(f'"/{number}/{index}"' for index in range(64)) for number in range(16)]
+    members = [f'<meta subscribe 1>,"subscription":[{it}]' for it in lists]
+    return [(f"[{{{it}}}]", f'200 [{{{it},"successful":true}}]') for it in members]
 
 
 def overflows():
     """Yields sessions with one pattern too many, which ends no hold. Afterwards no events ride."""
-    filled, full = as_many_patterns(3)
-    script, expected = f"0 P [<handshake>]\n0 P [<connect 1>]\n{filled}", f"1 200 [<opened 1>]\n{full}"
+    script, expected = answered(*handshakes(1), ("[<connect 1>]", "held"), *as_many_patterns(), ("[<subscribe 1 /a>]", "200 [<subscribed 1 /a>]"))
+    expected = expected.replace("2 held\n", "")
     for limit in (1_024, 1, 65_536):
         yield (
             "one pattern too many",
-            f"{script}0 P [<subscribe 1 /a>]\n29999 T\n30000 T\n30000 P [<poll 1>]\n",
-            f"{expected}19 200 [<subscribed 1 /a>]\n2 200 [<connected 1>]\n22 200 [<overflowed 1>]\n",
+            f"{script}29999 T\n30000 T\n30000 P [<poll 1>]\n",
+            f"{expected}2 200 [<connected 1>]\n22 200 [<overflowed 1>]\n",
             f".. - {limit}",
         )
-    yield (
-        "a rider whose patterns are one too many gets nothing, and none behind it does",
-        f"0 P [<handshake>]\n0 P [<handshake>]\n{filled}0 P [<publish 2 /3/0 1>]\n0 P [<subscribe 1 /a>]\n0 P [<publish 1 /b 2>]\n0 P [<poll 1>]\n",
-        f"1 200 [<opened 1>]\n2 200 [<opened 2>]\n{full}19 200 [<published /3/0>]\n"
-        "20 200 [<subscribed 1 /a>]\n21 200 [<published /b>]\n22 200 [<overflowed 1>]\n",
-        ".. r",
-    )
+    yield "a rider whose patterns are one too many gets nothing, and none behind it does", *answered(
+        *handshakes(1, 2),
+        *as_many_patterns(),
+        ("[<publish 2 /3/0 1>]", "200 [<published /3/0>]"),
+        ("[<subscribe 1 /a>]", "200 [<subscribed 1 /a>]"),
+        ("[<publish 1 /b 2>]", "200 [<published /b>]"),
+        ("[<poll 1>]", "200 [<overflowed 1>]"),
+    ), ".. r"
 
 
 def limits():
     """Yields two sessions for which the greatest number of events waits. One more overflows the one that has fetched none."""
     for limit in (1_025, 65_536):
-        counts = [256] * (limit // 256) + [limit % 256]
-        script = "0 P [<handshake>]\n0 P [<handshake>]\n0 P [<subscribe 1 /a/b>,<subscribe 2 /a/b>]\n"
-        script += "".join(f"0 P [{listed('<publish 1 /a/b 1>', count)}]\n" for count in counts)
-        script += "0 P [<poll 1>]\n0 P [<publish 1 /a/b 2>]\n0 P [<poll 2>]\n0 P [<poll 1>]\n"
-        expected = "1 200 [<opened 1>]\n2 200 [<opened 2>]\n3 200 [<subscribed 1 /a/b>,<subscribed 2 /a/b>]\n"
-        expected += "".join(f"{line} 200 [{listed('<published /a/b>', count)}]\n" for line, count in enumerate(counts, 4))
-        line, events = 4 + len(counts), listed("<event /a/b 1>", 256)
-        expected += f"{line} 200 [{events},<connected 1>]\n{line + 1} 200 [<published /a/b>]\n{line + 2} 200 [<overflowed 2>]\n"
-        yield f"{limit} events may wait", script, f"{expected}{line + 3} 200 [{events},<connected 1>]\n", f".. - {limit}"
-
-
-def numbered(text, numbers):
-    """Returns a line for each of `numbers`. `text`: the line, with N in place of the number, and X of its hexadecimal digits."""
-    return "".join(text.replace("N", f"{it}").replace("X", f"{it:x}") + "\n" for it in numbers)
+        counts, polled = [256] * (limit // 256) + [limit % 256], f"200 [{listed('<event /a/b 1>', 256)},<connected 1>]"
+        yield f"{limit} events may wait", *answered(
+            *handshakes(1, 2),
+            ("[<subscribe 1 /a/b>,<subscribe 2 /a/b>]", "200 [<subscribed 1 /a/b>,<subscribed 2 /a/b>]"),
+            *((f"[{listed('<publish 1 /a/b 1>', it)}]", f"200 [{listed('<published /a/b>', it)}]") for it in counts),
+            ("[<poll 1>]", polled),
+            ("[<publish 1 /a/b 2>]", "200 [<published /a/b>]"),
+            ("[<poll 2>]", "200 [<overflowed 2>]"),
+            ("[<poll 1>]", polled),
+        ), f".. - {limit}"
 
 
 def audiences():
     """Yields a publish to which 5,000 sessions are subscribed: the first and the last one get its event."""
-    count = 5_000
-    numbers = range(1, count + 1)
-    script = numbered("0 P [<handshake>]", numbers) + numbered("0 P [<subscribe X /a/b>]", numbers)
-    script += f"0 P [<publish 1 /a/b 7>]\n0 P [<poll 1>]\n0 P [<poll {count:x}>]\n"
-    expected = numbered("N 200 [<opened X>]", numbers)
-    expected += "".join(f"{count + it} 200 [<subscribed {it:x} /a/b>]\n" for it in numbers)
-    line, event = 2 * count + 1, "<event /a/b 7>"
-    expected += f"{line} 200 [<published /a/b>]\n{line + 1} 200 [{event},<connected 1>]\n{line + 2} 200 [{event},<connected {count:x}>]\n"
-    yield f"{count} sessions hear a publish", script, expected
+    numbers = range(1, 5_001)
+    yield f"{len(numbers)} sessions hear a publish", *answered(
+        *handshakes(*numbers),
+        *((f"[<subscribe {it:x} /a/b>]", f"200 [<subscribed {it:x} /a/b>]") for it in numbers),
+        ("[<publish 1 /a/b 7>]", "200 [<published /a/b>]"),
+        *((f"[<poll {it:x}>]", f"200 [<event /a/b 7>,<connected {it:x}>]") for it in (numbers[0], numbers[-1])),
+    )
 
 
 def holds():
@@ -143,10 +142,12 @@ def long_arrays():
     front, end = expand_macros('[{"channel":"/a/b","clientId":"<client 1>","data":['), "]}]"
     room = BODY - len(front) - len(end)
     data = listed("1", room // 2 + 1) if room % 2 else listed("1", room // 2 - 1) + ",10"
-    yield (
-        "an array of half a million numbers",
-        f"0 P [<handshake>]\n0 P [<subscribe 1 /a/b>]\n0 P {front}{data}{end}\n0 P {front}{data}0{end}\n0 P [<poll 1>]\n",
-        f"1 200 [<opened 1>]\n2 200 [<subscribed 1 /a/b>]\n3 200 [<published /a/b>]\n4 413\n5 200 [<event /a/b [{data}]>,<connected 1>]\n",
+    yield "an array of half a million numbers", *answered(
+        *handshakes(1),
+        ("[<subscribe 1 /a/b>]", "200 [<subscribed 1 /a/b>]"),
+        (f"{front}{data}{end}", "200 [<published /a/b>]"),
+        (f"{front}{data}0{end}", "413"),
+        ("[<poll 1>]", f"200 [<event /a/b [{data}]>,<connected 1>]"),
     )
 
 

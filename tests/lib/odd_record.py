@@ -8,6 +8,7 @@ be opened. FILE has the seconds by which the clock is ahead. ARGUMENTS are those
 """
 import builtins
 import errno
+import io
 import os
 import pathlib
 import runpy
@@ -21,43 +22,29 @@ sys.path.insert(0, str(SCRIPTS))
 import records  # noqa: E402
 
 
-class UnreadableFile:
-    """A file that can be read up to `most` bytes, and then raises `error`."""
+def opening(most, error):
+    """Returns a function that opens files of which `most` bytes can be read before `error` is raised."""
 
-    most: int
-    error: OSError
+    class Torn(io.FileIO):
+        def read(self, size=-1):
+            if self.tell() >= most:
+                raise error
+            return super().read(min(most - self.tell(), size))
 
-    def __init__(self, *args, **flags):
-        if self.most < 0:
-            raise self.error
-        self.file = open(*args, **flags)
-        self.seek, self.fileno = self.file.seek, self.file.fileno
+    def open_torn(path, *_, **__):
+        if most < 0:
+            raise error
+        return Torn(path)
 
-    def read(self, size):
-        """Reads and returns at most `size` bytes."""
-        left = self.most - self.file.tell()
-        if left <= 0:
-            raise self.error
-        return self.file.read(min(left, size))
+    return open_torn
 
 
-def tear(most, name):
-    """Lets records be read up to `most` bytes. `name`: that of the exception that follows."""
-    UnreadableFile.most, UnreadableFile.error = int(most), getattr(builtins, name)(errno.EIO, os.strerror(errno.EIO))
-    records.open = UnreadableFile
-
-
-def put_forward(path):
-    """Puts the clock forward by the seconds in the file `path`, which may grow."""
-    clock, file = time.monotonic, pathlib.Path(path)
-    time.monotonic = lambda: clock() + float(file.read_text(encoding="ascii"))
-
-
-if sys.argv[1] == "torn":
-    tear(*sys.argv[2:4])
-    rest = sys.argv[4:]
+kind, value, *rest = sys.argv[1:]
+if kind == "torn":
+    name, *rest = rest
+    records.open = opening(int(value), getattr(builtins, name)(errno.EIO, os.strerror(errno.EIO)))
 else:
-    put_forward(sys.argv[2])
-    rest = sys.argv[3:]
+    clock, file = time.monotonic, pathlib.Path(value)
+    time.monotonic = lambda: clock() + float(file.read_text(encoding="ascii"))
 sys.argv = [str(SCRIPTS / "replay_record"), *rest]
 runpy.run_path(sys.argv[0], run_name="__main__")

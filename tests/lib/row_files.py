@@ -71,14 +71,20 @@ def row_of(name, lines):
     return Row(name, parts["$"][0] if parts["$"] else None, script, expected)
 
 
-def rows_of(file):
-    """Yields the rows of a text file. Each begins with a line that is its name."""
+def blocks_of(file, marks):
+    """Yields the name and the lines of each block of a text file. Its lines begin with one of `marks`, and its name precedes them."""
     name, lines = None, []
     with open(file, encoding="utf-8", newline="\n") as text:
         for line in [*text.read().split("\n"), "the end"]:
-            if line[:1] in ("$", ">", "<") and line:
+            if line and line[0] in marks:
                 lines.append(line)
             elif line and not line.startswith("#"):
                 if name or lines:
-                    yield row_of(f"{os.path.basename(file)}: {name}", lines)
+                    yield name, lines
                 name, lines = line, []
+
+
+def rows_of(file):
+    """Yields the rows of a text file."""
+    for name, lines in blocks_of(file, "$><"):
+        yield row_of(f"{os.path.basename(file)}: {name}", lines)

@@ -1,11 +1,10 @@
 """Byte streams that are not valid HTTP, or valid HTTP that arrives in an unusual way."""
 import contextlib
-import re
 import socket
 import struct
 
 from daemon import Connection, ConnectionEnded, post
-from documents import check_post, document, messages_of
+from documents import broken, check_response, document, messages_of
 
 # The statuses that a response to arbitrary bytes may have.
 STATUSES = {200, 400, 404, 405, 413, 414, 431, 501}
@@ -27,60 +26,23 @@ HEADS = [
     *(b"POST http://h/cometd HTTP/1.1\r\nhost: h\r\ncontent-length: 2\r\n\r\n[]", b"HEAD /cometd HTTP/1.0\r\n\r\n"),
     *(b"GET /cometd HTTP/1.1\r\nhost: h\r\nconnection: upgrade\r\nupgrade: websocket\r\n\r\n", b"GET /cometd HTTP/1.1\nhost: h\n\n"),
 ]
+# What changes a request in place of tokens of JSON: lengths of chunks, and characters that mean something in a head.
 LENGTHS = [b"0", b"00", b"1", b"-1", b"fffffffffffffffff", b"ffffffffffffffff", b"7fffffffffffffff", b"g", b"", b"1 ", b"1;a=b", b"+1", b"0x1"]
+MARKS = [*LENGTHS, b"\r\n", b"\n", b"\x00", b":", b" ", b"\xff", b"x", b";" * 20000]
+# The bytes of most heads.
+HEAD = 120
 
 
-def chunks(random, body, sizes):
-    """Returns `body` in chunks of random `sizes`, without the empty chunk that ends them."""
-    made = []
+def request(random, body):
+    """Returns a POST of `body`, sometimes in chunks of random sizes, and then sometimes with a trailer."""
+    if random.random() < 0.5:
+        return post(body)
+    made = b"POST /cometd HTTP/1.1\r\nhost: h\r\ncontent-type: application/json\r\ntransfer-encoding: chunked\r\n\r\n"
     while body:
-        size = random.choice(sizes)
-        made.append(b"%x%s\r\n%s\r\n" % (len(body[:size]), random.choice((b"", b"", b";a=b")), body[:size]))
+        size = random.choice((1, 2, 7, 100, 4096, 1 << 20))
+        made += b"%x%s\r\n%s\r\n" % (len(body[:size]), random.choice((b"", b"", b";a=b")), body[:size])
         body = body[size:]
-    return b"".join(made)
-
-
-def chunked(random, body):
-    """Returns all chunks of `body`, in random sizes, sometimes with a trailer."""
-    tail = random.choice((b"", b"", b"a: b\r\n"))
-    return chunks(random, body, (1, 2, 7, 100, 4096, 1 << 20)) + b"0\r\n" + tail + b"\r\n"
-
-
-def post_chunked(body):
-    """Returns a POST of `body`, which is already in chunks."""
-    return b"POST /cometd HTTP/1.1\r\nhost: h\r\ncontent-type: application/json\r\ntransfer-encoding: chunked\r\n\r\n" + body
-
-
-def lying_chunks(random, clients):
-    """Returns a POST in chunks. At a line end, some bytes are replaced, removed or inserted, or the rest is missing."""
-    made = bytearray(chunked(random, document(random, clients)))
-    at = random.choice([it.start() for it in re.finditer(b"\r\n", made)])
-    way = random.randrange(4)
-    if way == 0:
-        made[max(0, at - 1) : at] = random.choice(LENGTHS)
-    elif way == 1:
-        del made[at : at + random.choice((1, 2))]
-    elif way == 2:
-        made[at:at] = random.choice((b"\r\n", b"\n", b"x", b"\x00", b";" * 20000))
-    else:
-        del made[at:]
-    return post_chunked(bytes(made))
-
-
-def lying_length(random, clients):
-    """Returns a POST with a `content-length` that is not the length of its body."""
-    body = document(random, clients)
-    lie = b"content-length: %d" % max(0, len(body) + random.choice((-len(body), -9, -1, 1, 9, 1000)))
-    return post(body).replace(b"content-length: %d" % len(body), lie, 1)
-
-
-def changed_head(random, clients):
-    """Returns a valid POST with a few changes in its first 90 bytes."""
-    made = bytearray(post(document(random, clients)))
-    for _ in range(random.choice((1, 1, 2, 5))):
-        at = random.randrange(min(len(made), 90))
-        made[at : at + random.choice((0, 1, 1, 4))] = random.choice((b"", b"\r\n", b"\x00", b":", b" ", b"\xff", bytes([random.randrange(256)])))
-    return bytes(made)
+    return made + b"0\r\n" + random.choice((b"", b"", b"a: b\r\n")) + b"\r\n"
 
 
 def stream(random, clients):
@@ -90,17 +52,14 @@ def stream(random, clients):
         return random.randbytes(random.choice((0, 1, 16, 200, 70000)))
     if way == 1:
         return random.choice(HEADS)
-    before = b"".join(post(document(random, clients)) for _ in range(random.choice((0, 0, 1, 3))))
-    maker = (lying_chunks, lying_length, changed_head, changed_head)[way - 2]
-    return before + maker(random, clients) + random.choice((b"", b"", post(b"[]"), b"\r\n", b"GET"))
+    *before, data = (request(random, document(random, clients)) for _ in range(random.choice((1, 1, 2, 4))))
+    size = random.choice((HEAD, len(data)))
+    return b"".join(before) + broken(random, data[:size], MARKS) + data[size:] + random.choice((b"", b"", post(b"[]"), b"\r\n", b"GET"))
 
 
 def cut(random, clients):
     """Returns valid requests, cut off at a random byte."""
-    made = b""
-    for _ in range(random.choice((1, 1, 2, 5))):
-        body = document(random, clients)
-        made += random.choice((post(body), post_chunked(chunked(random, body))))
+    made = b"".join(request(random, document(random, clients)) for _ in range(random.choice((1, 1, 2, 5))))
     return made[: random.randrange(len(made) + 1)]
 
 
@@ -125,7 +84,7 @@ def check_slow(random, address):
         for _ in range(20):
             body = document(random, ["x"])
             connection = stack.enter_context(Connection(address))
-            left[connection] = post(body) if random.random() < 0.5 else post_chunked(chunked(random, body))
+            left[connection] = request(random, body)
             cases.append((connection, messages_of(body)))
         while any(left.values()):
             for connection, data in left.items():
@@ -133,4 +92,4 @@ def check_slow(random, address):
                 connection.send(data[:size])
                 left[connection] = data[size:]
         for connection, messages in cases:
-            check_post(messages, connection.response())
+            check_response(messages, connection.response())

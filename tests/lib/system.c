@@ -10,7 +10,6 @@
    - The first accepts fail, each with the next error of ACCEPT_ERRORS, which has numbers and commas.
    - If PROC is set, it names a folder. Files are opened there in place of /proc.
    - If PROCESSORS is set, the program may use this number of processors.
-   - If FAILING_CALL is connect, recv or send, each such call fails with the error CALL_ERROR, a number.
 
    It calls the system itself, because AddressSanitizer ends a program that calls `dlsym` here. */
 #define _GNU_SOURCE
@@ -127,23 +126,4 @@ extern long __sysconf(int);
 long sysconf(int name) {
     const char *count = getenv("PROCESSORS");
     return count && name == _SC_NPROCESSORS_ONLN ? atol(count) : __sysconf(name);
-}
-
-static int fails(const char *call) {
-    const char *failing = getenv("FAILING_CALL");
-    if (!failing || strcmp(failing, call) != 0) return 0;
-    errno = atoi(getenv("CALL_ERROR"));
-    return 1;
-}
-
-int connect(int socket, const struct sockaddr *address, socklen_t size) {
-    return fails("connect") ? -1 : (int)syscall(SYS_connect, socket, address, size);
-}
-
-ssize_t recv(int socket, void *data, size_t size, int flags) {
-    return fails("recv") ? -1 : (ssize_t)syscall(SYS_recvfrom, socket, data, size, flags, NULL, NULL);
-}
-
-ssize_t send(int socket, const void *data, size_t size, int flags) {
-    return fails("send") ? -1 : (ssize_t)syscall(SYS_sendto, socket, data, size, flags, NULL, 0);
 }

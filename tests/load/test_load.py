@@ -5,7 +5,6 @@ each request has the same head, each message has the members that docs/PROTOCOL.
 that the server's times give.
 """
 import collections
-import errno
 import json
 import os
 import pty
@@ -20,6 +19,7 @@ import pytest
 from base import TIMEOUT_SECONDS, reserved_port, wait_until
 from daemon import CONNECT, HANDSHAKE
 from load_server import EVENTS, NEVER, WRONG, Server, at_moment, kind_of, response_of
+from strace import NO_STRACE, can_trace, failing
 
 PATH = "/cometd/of/a load?a=b".replace(" ", "%20")
 # The processors that the load sees by default. It has half as many threads, at least one and at most eight.
@@ -71,9 +71,9 @@ def start(load_program):
 class Load:
     """A run of the load on `server`. `arguments`: those after the URL. `start`, `end`: when it began and ended, by its clock."""
 
-    def __init__(self, program, server, arguments, variables=None, **streams):
+    def __init__(self, program, server, arguments, variables=None, before=(), **streams):
         self.server, self.start, self.end = server, server.clock.seconds, None
-        args = [program, f"http://{server.address()}{PATH}", *arguments.split()]
+        args = [*before, program, f"http://{server.address()}{PATH}", *arguments.split()]
         env = {**server.clock.env, "PROCESSORS": PROCESSORS, **(variables or {})}
         streams = {"stdin": subprocess.DEVNULL, "stdout": subprocess.PIPE, "stderr": subprocess.PIPE, **streams}
         self.process = subprocess.Popen(args, env=env, **streams)
@@ -102,9 +102,9 @@ class Load:
         assert (int(report[1]), int(report[3])) == (len(publishes), len(events))
         self.check_rate(int(report[2]), len(publishes), publishes[-1][2])
         self.check_rate(int(report[4]), len(events), events[-1][1] if events else self.end)
-        for head, length in self.server.heads:
-            fields = ["content-type: application/json", f"host: {self.server.address()}"]
-            assert [head[0], *sorted(head[1:])] == [f"POST {PATH} HTTP/1.1", f"content-length: {length}", *fields]
+        usual = {"content-type": "application/json", "host": self.server.address()}
+        for line, fields in self.server.heads:
+            assert (line, fields) == (f"POST {PATH} HTTP/1.1", {**usual, "content-length": fields["content-length"]})
         assert {form_of(it) for it, _, _ in self.server.messages} <= FORMS
         self.check_moments()
         return [float(report[it]) for it in range(5, 9)]
@@ -196,26 +196,22 @@ def test_publishers_without_sessions_only_publish(start, clock):
 AT_ONCE, MANY = 32, 300
 
 
-class CountingServer(Server):
-    """A server that answers handshakes once `most` of them wait, and the load sends no more. `waited`: how many waited then."""
-
-    def __init__(self, clock, most):
-        super().__init__(clock)
-        self.most, self.first, self.waited = most, threading.Lock(), None
-
-    def before(self, message):
-        with self.first:
-            if self.waited is None:
-                wait_until("handshakes wait", lambda: len(self.kinds("/meta/handshake")) >= self.most)
-                self.clock.await_looks(40)
-                self.waited = len(self.kinds("/meta/handshake"))
-
-
 @pytest.mark.parametrize("processors, threads", [(1, 1), (6, 3), (40, 8)])
 def test_many_clients_are_opened_some_at_a_time(start, clock, processors, threads):
-    with CountingServer(clock, threads * AT_ONCE) as server:
+    """The server answers handshakes only once the greatest number of them waits, and the load sends no more."""
+    first, waiting = threading.Lock(), []
+    with Server(clock) as server:
+
+        def count_waiting(_):
+            with first:
+                if not waiting:
+                    wait_until("handshakes wait", lambda: len(server.kinds("/meta/handshake")) >= threads * AT_ONCE)
+                    clock.await_looks(40)
+                    waiting.append(len(server.kinds("/meta/handshake")))
+
+        server.before = count_waiting
         start(server, f"1 1 {MANY} {MANY}", {"PROCESSORS": str(processors)}).check()
-    assert (server.waited, len(server.kinds("/meta/handshake"))) == (threads * AT_ONCE, 1 + MANY)
+    assert (waiting, len(server.kinds("/meta/handshake"))) == ([threads * AT_ONCE], 1 + MANY)
 
 
 @pytest.mark.parametrize("more", ["ack", "1000 ack"])
@@ -377,18 +373,6 @@ def test_silent_server_is_waited_for(start, clock, kind, jumps, line):
         assert (status, output, errors) == (1, "", "bayeux_load: no progress for 30 seconds\n")
 
 
-class StandingServer(Server):
-    """A server that answers the publish with the number WRONG only when `is_free` is set."""
-
-    def __init__(self, clock):
-        super().__init__(clock)
-        self.is_free = threading.Event()
-
-    def before(self, message):
-        if kind_of(message) == "publish" and message["data"]["number"] == WRONG:
-            self.is_free.wait(TIMEOUT_SECONDS)
-
-
 # A line of progress, and what erases it in the end.
 PROGRESS = re.compile(rb"\r([ 0-9]{4}[0-9]) s  ([0-9]+) to open, ([0-9]+) to publish, ([0-9]+) events\x1b\[K")
 ERASED = b"\r\x1b[K"
@@ -409,14 +393,16 @@ def test_terminal_shows_progress(start, clock):
             shown.extend(os.read(master, 1 << 16))
         return is_enough()
 
-    with StandingServer(clock) as server:
+    with Server(clock) as server:
+        is_free = threading.Event()
+        server.before = lambda it: kind_of(it) == "publish" and it["data"]["number"] == WRONG and is_free.wait(TIMEOUT_SECONDS)
         load = start(server, f"2 1 1 {EVENTS}", stderr=terminal)
         wait_until("earlier events", lambda: len(server.delivered) == 2 * WRONG)
         for _ in range(3):
             server.clock.add(1.0)
             wanted = int(server.clock.seconds), *counts
             wait_until("a line of progress", lambda wanted=wanted: has_shown(lambda: wanted in lines_of(shown)))
-        server.is_free.set()
+        is_free.set()
         load.check()
     wait_until("the line is erased", lambda: has_shown(lambda: shown.endswith(ERASED)))
     os.close(terminal)
@@ -467,24 +453,6 @@ RESPONSES = {
 }
 
 
-class WrongServer(Server):
-    """A server that sends the response `respond(items)` to the first message of a kind."""
-
-    def __init__(self, clock, kind, respond):
-        super().__init__(clock)
-        self.kind, self.respond = kind, respond
-
-    def send(self, socket, message, items):
-        if kind_of(message) != self.kind:
-            return super().send(socket, message, items)
-        with self.changed:
-            self.kind = None
-        response = self.respond(items)
-        if response is not None:
-            socket.sendall(response)
-        return response is not None
-
-
 def expect_message(load, message):
     """Checks that a load ends with status 1 and `message`, and without a report."""
     assert load.finish() == (1, "", f"bayeux_load: {message}\n")
@@ -495,8 +463,18 @@ FAULTS = [(what, kind) for what, (_, _, *kinds) in RESPONSES.items() for kind in
 
 @pytest.mark.parametrize("what, kind", FAULTS, ids=[f"{what} to {kind.rpartition('/')[2]}" for what, kind in FAULTS])
 def test_faults_of_the_server_are_named(start, clock, what, kind):
+    """The server sends the wrong response to the first message of the kind."""
     respond, message, *_ = RESPONSES[what]
-    with WrongServer(clock, kind, respond) as server:
+    with Server(clock) as server:
+
+        def send(socket, sent, items):
+            is_first = kind_of(sent) == kind and server.kinds(kind)[0][0] is sent
+            response = respond(items) if is_first else response_of(items)
+            if response is not None:
+                socket.sendall(response)
+            return response is not None
+
+        server.send = send
         expect_message(start(server, f"3 1 1 {EVENTS}"), message)
 
 
@@ -514,18 +492,19 @@ def test_faults_nobody_listens(start, clock, port):
 
 
 # The errors of calls, and the message for each (docs/ERRORS.md).
+CALLS = ("connect", "recvfrom", "sendto")
 FAILURES = [
     *(("connect", it, UNREACHED) for it in ("ECONNREFUSED", "EHOSTUNREACH", "ENETUNREACH", "ETIMEDOUT")),
-    *((call, it, ENDED) for call in ("recv", "send") for it in ("ECONNRESET", "EPIPE")),
-    *((it, "ENOMEM", "out of memory") for it in ("connect", "recv", "send")),
-    *((it, "EACCES", SYSTEM) for it in ("connect", "recv", "send")),
+    *((call, it, ENDED) for call in CALLS[1:] for it in ("ECONNRESET", "EPIPE")),
+    *((it, *row) for it in CALLS for row in (("ENOMEM", "out of memory"), ("EACCES", SYSTEM))),
 ]
 
 
+@pytest.mark.skipif(not can_trace(), reason=NO_STRACE)
 @pytest.mark.parametrize("call, error, message", FAILURES)
 def test_failures_of_calls_are_named(start, clock, call, error, message):
     with Server(clock) as server:
-        expect_message(start(server, "1 1 1 1", {"FAILING_CALL": call, "CALL_ERROR": str(getattr(errno, error))}), message)
+        expect_message(start(server, "1 1 1 1", before=failing(call, error, "1+")), message)
 
 
 def test_full_file_of_the_report(start, clock):

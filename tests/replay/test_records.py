@@ -5,6 +5,7 @@ Each call of records.txt is a test: `./bayeux test records -k WORD`.
 import difflib
 import functools
 import hashlib
+import io
 import itertools
 import os
 import re
@@ -23,7 +24,7 @@ from typing import Any, NamedTuple
 import pytest
 import records
 from base import TOP, make_program, read, wait_until
-from row_files import expand_macros
+from row_files import blocks_of, expand_macros
 
 REPLAY_RECORD = f"{TOP}/scripts/replay_record"
 DIGEST = re.compile(r"sha256\((.*)\)", re.DOTALL)
@@ -92,17 +93,6 @@ def calls_of(name: str, lines: list[str]) -> Iterator[Call]:
         yield found
 
 
-def calls() -> Iterator[Call]:
-    """Yields all calls of records.txt."""
-    name, lines = "", []
-    for line in [*(TOP / "tests/records/records.txt").read_text(encoding="utf-8").split("\n"), "the end"]:
-        if line[:1] in (">", "^", "?", "!", "<", "~") and line:
-            lines.append(line)
-        elif line and not line.startswith("#"):
-            yield from calls_of(name, lines)
-            name, lines = line, []
-
-
 def identifier(call: Call) -> str:
     """Returns the name and the arguments of a call as one word."""
     return re.sub(r"\W+", "_", f"{call.name}-{' '.join(call.arguments)[:60]}", flags=re.ASCII)
@@ -128,7 +118,10 @@ def ask(replay_program: str, tmp_path: Path) -> Ask:
     return run
 
 
-@pytest.mark.parametrize("call", calls(), ids=identifier)
+CALLS = [call for name, lines in blocks_of(TOP / "tests/records/records.txt", ">^?!<~") for call in calls_of(name, lines)]
+
+
+@pytest.mark.parametrize("call", CALLS, ids=identifier)
 def test_call(call: Call, ask: Ask) -> None:
     args, program = call.arguments, [REPLAY_RECORD]
     if args[:1] == [UNREADABLE]:
@@ -145,14 +138,15 @@ def test_call(call: Call, ask: Ask) -> None:
 class Growing:
     """A record that grows while a check follows it. The clock of the check is put forward."""
 
-    def __init__(self, path: Path, replay: str, stderr: int = subprocess.STDOUT):
+    def __init__(self, path: Path, replay: str):
         """Makes a record with one handshake, and starts a check with the program `replay`."""
         self.path, self.output, self.clock, self.seconds = path, b"", path.with_suffix(".clock"), 0
         self.file = open(path, "wb", buffering=0)
         self.add(FIRST_LINE, "0 P [<handshake>]", "A 0 sha256([<opened 1>])")
         self.pass_time(0)
         args = [*ODD_RECORD, "clock", str(self.clock), "--record", str(path), "--check", "--follow"]
-        self.process: Any = subprocess.Popen(args, stdout=subprocess.PIPE, stderr=stderr, env={**os.environ, "REPLAY": replay})
+        how = {"stdout": subprocess.PIPE, "stderr": subprocess.STDOUT, "env": {**os.environ, "REPLAY": replay}}
+        self.process: Any = subprocess.Popen(args, **how)
         self.wait_for(f"following {path}\n")
 
     def pass_time(self, seconds: int) -> None:
@@ -195,11 +189,11 @@ class Growing:
 
 @pytest.fixture
 def growing(replay_program: str, tmp_path: Path) -> Iterator[Callable[..., Growing]]:
-    """Starts a check of a record that grows: `growing(replay=.., stderr=..)`. It ends with the test."""
+    """Starts a check of a record that grows: `growing(replay)`. It ends with the test."""
     started: list[Growing] = []
 
-    def start(replay: str = replay_program, **how) -> Growing:
-        started.append(Growing(tmp_path / "growing", replay, **how))
+    def start(replay: str = replay_program) -> Growing:
+        started.append(Growing(tmp_path / "growing", replay))
         return started[-1]
 
     yield start
@@ -215,11 +209,13 @@ def test_follow_compares_a_record_that_grows_until_an_interrupt(growing) -> None
     it.add("1 P [<subscribe 1 /a>]")
     line = f"{record_line('A 1 sha256([<subscribed 1 /a>])')}\n".encode()
     it.file.write(line[:-30])
-    it.pass_time_until("line 4, moment 1, answers compared: 1, waiting: 0, bytes behind: ")
+    passed = it.pass_time_until("line 4, moment 1, answers compared: 1, waiting: 0, bytes behind: ")
     it.file.write(line[-30:])
     it.add("2 T", "3 P [<poll 1>]", "A 3 sha256([<connected 1>])")
     it.file.write(b"4 T")
-    it.pass_time_until("line 8, moment 3, answers compared: 3, waiting: 0, bytes behind: 3\n")
+    passed += it.pass_time_until("line 8, moment 3, answers compared: 3, waiting: 0, bytes behind: 3\n")
+    # Progress is reported at most once in ten seconds of the clock.
+    assert it.output.count(b", moment ") <= passed
     it.process.send_signal(signal.SIGINT)
     it.wait_for("\nanswers compared: 3, wrong: 0, without a line A: 0, not compared: 0\n")
     it.end(0)
@@ -237,16 +233,6 @@ def test_follow_ends_with_a_wrong_answer(is_deleted: bool, growing) -> None:
     it.end(1)
 
 
-def test_follow_reports_an_answer_without_a_cause(growing) -> None:
-    it = growing()
-    it.add("1 P [<connect 1>]", "A 1 sha256([<connected 1>])")
-    text = "line 5: place 1: the replay answers nothing there with 200, or another line named it\nthe request is line 4, of client <client 1>\n"
-    passed = it.pass_time_until(expand_macros(text))
-    it.end(1)
-    # Progress is reported at most once in ten seconds of the clock.
-    assert it.output.count(b", moment ") <= passed
-
-
 def test_follow_counts_what_was_not_compared(growing, tmp_path: Path) -> None:
     it = growing(make_program(tmp_path / "replay", "exec sleep 100"))
     it.add(*(line for place in range(1, 2001) for line in ("1 P [<subscribe 1 /a>]", f"A {place} sha256([<subscribed 1 /a>])")))
@@ -254,16 +240,6 @@ def test_follow_counts_what_was_not_compared(growing, tmp_path: Path) -> None:
     it.process.send_signal(signal.SIGINT)
     it.pass_time_until("\nanswers compared: 0, wrong: 0, without a line A: 0, not compared: 2001\n")
     it.end(0)
-
-
-@pytest.mark.parametrize("lines", [[], ["A 1 sha256([<subscribed 1 /b>])"]], ids=["progress", "wrong_line"])
-def test_follow_ends_if_nobody_reads_its_output(lines: list[str], growing) -> None:
-    it = growing(stderr=subprocess.PIPE)
-    it.process.stdout.close()
-    it.add(*lines)
-    wait_until("the check has ended", lambda: it.pass_time(11) or it.process.poll() is not None, pause=0.1)
-    assert it.process.stderr.read().decode() == "bayeux: standard output cannot be written: Broken pipe\n"
-    it.end(1)
 
 
 @functools.cache
@@ -275,33 +251,24 @@ def load_checker():
     return checker
 
 
-class RecordFile:
-    """A file that grows, and a clock that goes on by 0.1 seconds with each read. Both replace those of the scripts.
+class SimulatedRecord(records.Source):
+    """A record that grows, and a clock that goes on by 0.1 seconds with each read, in place of that of the scripts.
 
-    `grow(file)`: returns what a read finds.
+    `grow(record)`: returns what a read finds.
     """
 
-    def __init__(self, grow: Callable[["RecordFile"], bytes], monkeypatch: pytest.MonkeyPatch):
-        self.grow, self.seconds = grow, 0.0
+    def __init__(self, grow: Callable[["SimulatedRecord"], bytes], monkeypatch: pytest.MonkeyPatch):
+        # pylint: disable=super-init-not-called
+        self.grow, self.seconds, self.file, self.read = grow, 0.0, io.BytesIO(), 0
         for module in (records, load_checker()):
             monkeypatch.setattr(module, "time", self)
 
-    def seek(self, place: int) -> None:
-        """Ignores the call."""
-
-    def read(self, size: int) -> bytes:
-        del size
+    def block(self, size: int) -> bytes:
         self.seconds += 0.1
         return self.grow(self)
 
     def monotonic(self) -> float:
         return self.seconds
-
-    def source(self) -> records.Source:
-        """Returns a source that reads the file."""
-        source = records.Source.__new__(records.Source)
-        source.path, source.file, source.read = "", self, 0
-        return source
 
 
 def find_late_answer(monkeypatch: pytest.MonkeyPatch, lag: float, answered: bool, bad: bool = False):
@@ -313,24 +280,24 @@ def find_late_answer(monkeypatch: pytest.MonkeyPatch, lag: float, answered: bool
     """
     begin = ["0 P [<handshake>]", "1 P [<connect 1>]", "A 1 sha256([<connected 1>])", "2 T", "3 T"]
     blocks = itertools.chain(["".join(f"{record_line(it)}\n" for it in begin).encode()], itertools.repeat(b"1 T\n" * 10))
-    file, check = RecordFile(lambda _: next(blocks), monkeypatch), load_checker().Check()
+    record, check = SimulatedRecord(lambda _: next(blocks), monkeypatch), load_checker().Check()
     given: list[tuple[float, bytes]] = []
     number, line = 0, 1
-    for part in check.parts(file.source().follow(threading.Event(), None)):
-        given.extend((file.seconds, line) for line in (part or b"").split(b"\n")[:-1])
-        while number < len(given) and given[number][0] <= file.seconds - lag:
+    for part in check.parts(record.follow(threading.Event(), None)):
+        given.extend((record.seconds, line) for line in (part or b"").split(b"\n")[:-1])
+        while number < len(given) and given[number][0] <= record.seconds - lag:
             is_push = given[number][1] == b"-"
             number += 1
             line += not is_push
-            if is_push or (bad and file.seconds > 5):
+            if is_push or (bad and record.seconds > 5):
                 check.printed(number, "bad", b"")
             if bad and check.fault:
                 break
             if number == 5 and answered:
                 check.printed(2, "200", expand_macros("[<connected 1>]").encode())
-        if check.fault or file.seconds > 100:
+        if check.fault or record.seconds > 100:
             break
-    return check.fault and (check.fault.line - line if bad else check.fault.line, check.fault.place), check.compared, file.seconds
+    return check.fault and (check.fault.line - line if bad else check.fault.line, check.fault.place), check.compared, record.seconds
 
 
 @pytest.mark.parametrize("lag", [0, 30])
@@ -378,10 +345,10 @@ def test_answer_may_be_printed_before_its_line(text: str, wanted: tuple[int, int
 def test_idle_counts_from_the_last_growth(pause: float, lines: int, monkeypatch) -> None:
     """The file grows by a line after each `pause` seconds, ten times."""
     due, stop = [pause * it for it in range(10, 0, -1)], threading.Event()
-    file = RecordFile(lambda it: b"1 T\n" if due and it.seconds >= due[-1] and due.pop() else b"", monkeypatch)
+    record = SimulatedRecord(lambda it: b"1 T\n" if due and it.seconds >= due[-1] and due.pop() else b"", monkeypatch)
     monkeypatch.setattr(stop, "wait", lambda seconds: None)
-    assert sum(it is not None for it in file.source().follow(stop, 10.0)) == lines
-    assert pause * lines + 10.0 <= file.seconds <= pause * lines + 11.0
+    assert sum(it is not None for it in record.follow(stop, 10.0)) == lines
+    assert pause * lines + 10.0 <= record.seconds <= pause * lines + 11.0
 
 
 def test_items_that_are_nested_too_deeply_are_refused() -> None:
@@ -434,19 +401,15 @@ def test_clients_that_match_are_counted_and_ten_are_listed(ask: Ask) -> None:
 
 
 @pytest.mark.parametrize("way", WAYS, ids=" ".join)
-def test_file_that_cannot_be_used_is_refused(way: list[str], ask: Ask, tmp_path: Path) -> None:
+def test_file_or_program_that_cannot_be_used_is_named(way: list[str], ask: Ask, tmp_path: Path) -> None:
     os.mkfifo(tmp_path / "pipe")
-    for path in (f"{tmp_path}/none", str(tmp_path), f"{tmp_path}/pipe", "/dev/null"):
-        found = ask(["--record", path, *way])
+    none = f"{tmp_path}/none"
+    results = [(path, ask(["--record", path, *way])) for path in (none, str(tmp_path), f"{tmp_path}/pipe", "/dev/null")]
+    assert all("usage: " in found.errors for _, found in results)
+    results.append((none, ask(["--record", "FILE", *way], f"{FIRST_LINE}\n0 P [{BEN}]\n".encode(), env={**os.environ, "REPLAY": none})))
+    for path, found in results:
         assert (found.status, found.output) == (2, "")
-        assert path in found.errors and "usage: " in found.errors and "Traceback" not in found.errors
-
-
-@pytest.mark.parametrize("way", WAYS, ids=" ".join)
-def test_missing_program_is_reported(way: list[str], ask: Ask, tmp_path: Path) -> None:
-    found = ask(["--record", "FILE", *way], f"{FIRST_LINE}\n0 P [{BEN}]\n".encode(), env={**os.environ, "REPLAY": f"{tmp_path}/none"})
-    assert (found.status, found.output) == (2, "")
-    assert f"{tmp_path}/none" in found.errors and "Traceback" not in found.errors
+        assert path in found.errors and "Traceback" not in found.errors
 
 
 NAMED, FAILED = "bayeux: Ben, by the handshake of line 2 at moment 0, is ", "bayeux: standard output"
