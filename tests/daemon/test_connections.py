@@ -80,6 +80,12 @@ def test_next_client_is_served_once_descriptors_are_free(daemon, client, clock):
     wait_until("the daemon has no free descriptor", lambda: server.descriptors() >= files)
     server.wait_until_idle("a free file descriptor")
     server.check_alive()
+
+    def warnings():
+        clock.add(0.1)
+        return [it for it in server.logged("WARN") if it.startswith("few file descriptors are free connections=")]
+
+    assert wait_until("the log says that few descriptors are free", warnings)[0].endswith(f" limit={files}")
     for it in connections:
         it.socket.close()
     wait_until("descriptors are free", lambda: server.descriptors() < files // 2)

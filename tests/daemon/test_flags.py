@@ -8,7 +8,7 @@ import pytest
 
 from base import TIMEOUT_SECONDS, limit_file_size, read, readable
 from chacha import drawn
-from daemon import HANDSHAKE, SEED, expect_error, expect_events, expect_status, expect_success, get, open_session, poll, post, publish
+from daemon import HANDSHAKE, MORE_MESSAGES, SEED, expect_error, expect_events, expect_status, expect_success, get, open_session, poll, post, publish
 from daemon import subscribe
 from documented import ADDRESSES, FLAGS, GREATEST, SWITCHES, TIMES, VALUES
 from runs import ANYWHERE, cannot, faults, match, no_place, run, without_times
@@ -28,7 +28,7 @@ LOGGED = {
     **dict.fromkeys(ADDRESSES, "localhost:0 [::1]:0 127.0.0.1:65535 [::1]:1"),
     **dict.fromkeys(TIMES, "0 0s=0 1ms 500ms 999ms 1000=1s 1500=1500ms 7s 3000ms=3s 4294967s 4294967295=4294967295ms"),
     **{"shards": "1 3 64", "limit": "1 5 2k=2048 65536", "bytes": "1 6 4095m=4293918720 4294967295", "record": "one"},
-    **{"patterns": "1 1023 1024", "sessions": "1 8 32k=32768 65536", "body": "1 9 64k=65536 1m=1048576 1048576"},
+    **{"patterns": "1 1023 1024", "sessions": "1 8 32k=32768 65536", "body": "1 9 64k=65536 1m=1048576 1048576", "messages": "1 32 256"},
     **{"connections": "1 4 4294967296 18446744073709551615", "record-bytes": "1 10k=10240 17592186044416"},
 }
 # Flags, and the settings that they change.
@@ -37,6 +37,11 @@ SETTINGS = [
     for name, values in LOGGED.items()
     for value, _, logged in (it.partition("=") for it in values.split())
 ]
+# A flag that needs another one.
+for given, settings in SETTINGS:
+    if given[0] == "--record-bytes":
+        given.append("--record=three")
+        settings["record"] = "three"
 SETTINGS += [([f"--{name}"], {name.replace("-", "_"): "true"}) for name in ("until-eof", "ride", "anonymous")]
 SETTINGS += [
     (["--no-callback-polling"], {"callback_polling": "false"}),
@@ -133,12 +138,12 @@ WRONG_FLAGS = [
     *wrong(["metrics"], f"{OTHER_THAN}readers", ["[::1]:1"], ["--readers", "[::1]:1"]),
     *wrong([REPEATED], PATTERN, ["hall"], [*READERS, "--readers-publish", "/hall"]),
     *wrong([REPEATED], PATTERN, ["/*/hall"], READERS),
-    *wrong(["shards"], "a number from 1 to 64", [*WRONG_COUNTS, "65"]),
     *(
         row
         for name, most in GREATEST.items()
-        for row in wrong([name], f"a number from 1 to {most} (units: k, m)", [*WRONG_COUNTS, str(most + 1), f"{(most >> 20) + 1}m"])
-        if name != "shards"
+        for units in (" (units: k, m)" if most >= 1024 else "",)
+        for before in (["--record=four"] if name == "record-bytes" else [],)
+        for row in wrong([name], f"a number from 1 to {most}{units}", [*WRONG_COUNTS, str(most + 1), f"{(most >> 20) + 1}m"], before)
     ),
     *wrong(["body"], "a number from 1 to 1048576 (units: k, m)", ["2m", "1025k"]),
     *wrong(["connections"], "a number without a unit", ["x", "5k", "1m", "-1", "+1", "18446744073709551616", ""]),
@@ -147,7 +152,7 @@ WRONG_FLAGS = [
     (["--shard", "4"], "unexpected argument '--shard' found"),
     (["--ride", "x"], "unexpected argument 'x' found"),
     (["--readers-publish", "/hall"], "the following required arguments were not provided:\n  --readers <ADDRESS>"),
-    (["--record-answers"], "the following required arguments were not provided:\n  --record <FILE>"),
+    *(([it], "the following required arguments were not provided:\n  --record <FILE>") for it in ("--record-answers", "--record-bytes=1")),
 ]
 for name, argument in VALUES:
     twice = [([f"--{name}=1"] * 2, f"the argument '--{name} <{argument}>' cannot be used multiple times")]
@@ -169,12 +174,17 @@ def test_wrong_flags_are_rejected(program, flags, message):
 USAGE = "usage: bayeuxd address shards timeout interval max_interval seed connections [options [limit]]\n"
 # Positional arguments with which a daemon serves. A proof says which ones these are.
 ARGUMENTS = ["127.0.0.1:0", "2", "30000", "0", "10000", SEED, "1"]
-WRONG_ARGUMENTS = [[], ["x"], ARGUMENTS[:-1], ["localhost:0", *ARGUMENTS[1:]], [*ARGUMENTS, "ra", "2", "2"], [b"\xff"]]
+WRONG_ARGUMENTS = [[], ARGUMENTS[:1], ARGUMENTS[:-1], ["localhost:0", *ARGUMENTS[1:]], [*ARGUMENTS, "ra", "2", "2"], [b"\xff"]]
 
 
 @pytest.mark.parametrize("arguments", WRONG_ARGUMENTS, ids=lambda it: f"{len(it)} {name_of(it)[:20]}")
 def test_wrong_positional_arguments_print_the_usage(program, arguments):
     assert run(program, arguments) == (2, "", USAGE)
+
+
+def test_stray_word_is_no_positional_argument(program):
+    status, output, errors = run(program, ["serve"])
+    assert (status, output) == (2, "") and errors.startswith("error: unexpected argument 'serve' found\n")
 
 
 RECORD_EXISTS = "bayeuxd: a record needs a new file: name another one, or move this one away"
@@ -252,14 +262,14 @@ ALL_FLAGS = [
     *(("--listen", "127.0.0.1:0"), ("--readers", "localhost:0"), ("--metrics", "127.0.0.1:0")),
     *(("--readers-publish", "/a"), ("--readers-publish", "/b/*"), ("--log", "json"), ("--log-level", "info")),
     *(("--shards", "2"), ("--timeout", "7s"), ("--interval", "2s"), ("--max-interval", "601s"), ("--limit", "3"), ("--bytes", "500")),
-    *(("--patterns", "4"), ("--sessions", "5"), ("--body", "6000"), ("--connections", "5"), ("--record-bytes", "500000")),
+    *(("--patterns", "4"), ("--sessions", "5"), ("--body", "6000"), ("--messages", "9"), ("--connections", "9"), ("--record-bytes", "500000")),
 ]
 ALL_LOGGED = {name[2:].replace("-", "_"): value for name, value in ALL_FLAGS if not name.startswith("--log")} | {
     **{"readers_publish": "/a,/b/*", "ride": "true", "anonymous": "true", "callback_polling": "false"},
     **{"record_answers": "true", "until_eof": "true"},
 }
 FIRST_LINE = "shards=2 timeout=7000 interval=2000 max_interval=601000 options=ra bytes=500 sessions=5 patterns=4 limit=3"
-LIMITS = {"events": 3, "bytes": 500, "patterns": 4, "sessions": 5, "body": 6000, "shards": 2}
+LIMITS = {"events": 3, "bytes": 500, "patterns": 4, "sessions": 5, "body": 6000, "messages": 9, "shards": 2}
 
 
 def address_in(text):
@@ -283,12 +293,14 @@ def expect_overflows(connection, sessions):
     expect_error(poll(connection, sessions[2]), "413::Queue overflow")
 
 
-def expect_listener(connection, is_reader):
+def expect_listener(client, address, is_reader):
     """Checks what one listener accepts."""
+    connection = client(address)
     expect_status(connection, post(b"[%s]" % (b" " * 5998)), 200)
-    expect_status(connection, post(b"[%s]" % (b" " * 5999)), 413)
+    expect_status(client(address), post(b"[%s]" % (b" " * 5999)), 413)
+    expect_status(connection, post(json.dumps([{"channel": "/a", "data": 1}] * 10).encode()), 400, MORE_MESSAGES)
     expect_status(connection, get(b"?message=[]"), 403, "callback-polling is off")
-    expect_status(connection, post(b"[]", b"text/plain"), 415)
+    expect_status(client(address), post(b"[]", b"text/plain"), 415)
     for channel, is_allowed in (("/a", True), ("/b/1", True), ("/c", not is_reader)):
         expect_status(connection, post(json.dumps([{"channel": channel, "data": 1}]).encode()), 200 if is_allowed else 403)
 
@@ -312,8 +324,8 @@ def test_each_flag_has_its_effect_with_all_others(daemon, client, tmp_path):
         session = {"clientId": first["clientId"]}
         sessions = [open_session(it) for it in (connection, reader, connection, reader)]
         expect_error(connection.ask([HANDSHAKE]), "503::Too many sessions")
-        for it in (connection, reader):
-            expect_listener(it, it is reader)
+        for it in (server.address, readers):
+            expect_listener(client, it, it is readers)
         expect_overflows(connection, sessions)
         subscribe(connection, "/c", session)
         publish(connection, "/c", 1, {})

@@ -108,6 +108,15 @@ def test_level_leaves_out_less_severe_lines(log_of, level, lines, count):
     assert (json.loads(found[-2])["level"], len(found)) == ("error", count)
 
 
+def test_errors_in_a_log_of_json_are_objects(program, tmp_path):
+    """The daemon cannot create its record, and says why."""
+    (tmp_path / "record").touch()
+    status, _, errors = run(program, [*ANYWHERE, "--log", "json", "--record", str(tmp_path / "record")])
+    found = [json.loads(it) for it in errors.splitlines()]
+    assert (status, [it["level"] for it in found[-3:]]) == (1, ["error"] * 3)
+    assert found[-1]["event"] == "bayeuxd: a record needs a new file: name another one, or move this one away"
+
+
 @pytest.mark.parametrize("form", ["text", "json"])
 def test_daemon_that_cannot_write_its_log_serves(daemon, form):
     with open("/dev/full", "wb") as full:

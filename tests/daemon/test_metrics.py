@@ -6,6 +6,7 @@ import re
 import resource
 import shutil
 import socket
+import struct
 import subprocess
 import time
 
@@ -17,10 +18,15 @@ from daemon import expect_success, get, open_many, open_session, post, post_code
 from documented import documented_errors, documented_reasons, expect_documented
 from metrics import CONNECTS_HELD, FILED, OPEN, OPENED, REFUSED_TICKS, REQUESTS_HELD, SESSIONS, TICKED, ask_for, read_page
 from metrics import wait_for_metrics
+from strace import NO_STRACE, STRACE, can_trace, start_traced
 
 CHANNEL = "/watched"
 # The bytes of a field in a long head for the metrics listener, such as the cookies of a browser.
 LONG_FIELD = 4000
+
+# A page of another site whose name leads to the server could read these paths, but for the host name in its requests.
+HOST_PATHS, OTHER_HOSTS = (b"/", b"/sessions", b"/channels"), (b"evil.example", b" 127.0.0.1.example:80", b"")
+OWN_HOSTS = b"127.0.0.1:9090", b"[::1]:80", b"192.0.2.1", b"localhost:1"
 
 
 @pytest.mark.parametrize(
@@ -42,6 +48,9 @@ LONG_FIELD = 4000
         (b"GET /metrics HTTP/1.1\r\nhost: h\r\naccept: %s\r\n\r\n" % (b"a" * LONG_FIELD), 200),
         (b"GET /healthzx HTTP/1.1\r\n\r\n", 404),
         (b"\r\n\r\n", 405),
+        *((b"GET %s HTTP/1.1\r\nHOST:%s\r\n\r\n" % (path, host), 421) for path in HOST_PATHS for host in OTHER_HOSTS),
+        *((b"GET %s HTTP/1.1\r\nhost: %s\r\n\r\n" % (path, host), 200) for path in HOST_PATHS for host in OWN_HOSTS),
+        (b"GET /metrics HTTP/1.1\r\nhost: metrics.example:9090\r\n\r\n", 200),
     ],
     ids=lambda it: it.partition(b" HTTP")[0].decode().strip() if isinstance(it, bytes) else f"{it}",
 )
@@ -96,6 +105,22 @@ def test_request_for_metrics_may_take_two_seconds(daemon, client, clock, pause, 
             clock.add(passed)
     assert [it.status for it in connection.read_to_end()] == statuses
     server.scrape()
+
+
+def test_each_silent_client_halves_the_patience_with_the_next_one(daemon, client, tmp_path):
+    """The system lets the metrics listener wait for the first byte."""
+    if not can_trace():
+        pytest.skip(NO_STRACE)
+    trace = tmp_path / "trace"
+    server = start_traced(daemon, [*STRACE, "-o", str(trace), "-e", "trace=setsockopt"])
+    silent = [client(server.metrics) for _ in range(6)]
+    assert ask_for(server.metrics, get(b"", b"/healthz")).status == 200
+    ask_for(server.metrics, get(b"", b"/healthz"))
+    for it in silent:
+        it.socket.close()
+    shown = re.findall(r'SO_RCVTIMEO\w*, "((?:[^"\\]|\\.)*)"', trace.read_text(encoding="ascii"))
+    times = [struct.unpack("@ll", it.encode().decode("unicode_escape").encode("latin-1")) for it in shown]
+    assert times[:6] == [(2, 0), (1, 0), (0, 500_000), (0, 250_000), (0, 125_000), (0, 125_000)]
 
 
 def test_metrics_show_what_two_clients_do(daemon, client):

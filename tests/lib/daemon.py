@@ -19,6 +19,8 @@ from base import TIMEOUT_SECONDS, end, readable, wait_until
 SEED = bytes(range(1, 33)).hex()
 # The most messages of a request, and how many requests are sent at a time.
 MOST_MESSAGES, AT_ONCE = 256, 200
+# Why a request with more messages than --messages is rejected.
+MORE_MESSAGES = "more messages in one request than the server accepts"
 # With this environment, each large body or event has pages of its own, which the system gets back once it is freed, and all threads
 # have the other memory in common. So the resident memory does not depend on which thread served a request.
 OWN_PAGES = {"MALLOC_MMAP_THRESHOLD_": "65536", "MALLOC_ARENA_MAX": "1"}
@@ -301,7 +303,7 @@ def post_coded(codings, method=b"POST", target=b"/cometd", body=b"[]"):
 
 def get(query, path=b"/cometd"):
     """Returns a GET of `path` followed by `query`, which begins with `?` if it is not empty."""
-    return b"GET %s%s HTTP/1.1\r\nhost: h\r\n\r\n" % (path, query)
+    return b"GET %s%s HTTP/1.1\r\nhost: localhost\r\n\r\n" % (path, query)
 
 
 def by_form(*documents):

@@ -1,5 +1,5 @@
-ghost use Rattle.std.specs.Prelude.{◌≡◌, ◌⊎◌, IfOk, OnOk, option_map};
-ghost use Rattle.bx_service.specs.Responses.{IsAnswer, IsRefusal, leaves_body, needed_fields, refusal_fields};
+ghost use Rattle.std.specs.Prelude.{◌≡◌, ◌⊎◌, IfOk, option_map};
+ghost use Rattle.bx_service.specs.Responses.{allowed_methods, IsAnswer, IsRefusal, leaves_body, needed_fields, refusal_fields};
 
 use crate::error::{RequestError, code_of};
 use bx_message::Item;
@@ -42,16 +42,23 @@ fn refusal_fields(alloc: Global, error: RequestError) -> Result<HeaderMap, Alloc
 fn needed_fields(alloc: Global, error: RequestError) -> Result<HeaderMap, AllocError>
     ensures { IfOk result (λ fields. fields ≡ needed_fields error) }
 {
+    let mut fields = allowed_methods(alloc, error)?;
+    if leaves_body(error) {
+        let close = HeaderValue::from_static("close");
+        if fields.insert(CONNECTION, close).is_err() {
+            return Err(AllocError);
+        }
+    }
+    Ok(fields)
+}
+
+fn allowed_methods(alloc: Global, error: RequestError) -> Result<HeaderMap, AllocError>
+    ensures { IfOk result (λ fields. fields ≡ allowed_methods error) }
+{
     let mut fields = HeaderMap::new(alloc);
     if error == RequestError::MethodNotAllowed {
         let methods = HeaderValue::from_static("GET, POST");
         if fields.insert(ALLOW, methods).is_err() {
-            return Err(AllocError);
-        }
-    }
-    if leaves_body(error) {
-        let close = HeaderValue::from_static("close");
-        if fields.insert(CONNECTION, close).is_err() {
             return Err(AllocError);
         }
     }
