@@ -75,8 +75,8 @@ abbrev pub messages_in : ReadInput → ℕ
 messages_in (Request moment nonce messages) = length messages
 messages_in _ = 0
 
--- The fault can be why admission rejected `input`, if the pass has then seen `front`. `Refused`: the
--- rules reject `input` after the list of `front`, with this refusal. `Ended` can also
+-- The fault can be why admission rejected `input`, if the pass has then seen `front`. `Refused`:
+-- the rules reject `input` after the list of `front`, with this refusal. `Ended` can also
 -- mean that the log of publishes and trims is too long. `Behind`: `input` could be appended, but
 -- the window is full and begins at `first`. `Overrun`: the window was full, and now begins after
 -- `place`. `WrongShard`: the window was full, and the lock of `shard` guards another shard.

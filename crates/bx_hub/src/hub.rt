@@ -78,8 +78,8 @@ impl<L: HubKind, R: Wait + Drop> Hub<L, R> {
 
     /// Creates a hub with an empty list and `config.shards` shards.
     ///
-    /// It accepts requests with up to [`MAX_MESSAGES`] (256) messages. `rt`: the right to wait, which
-    /// the window's writer keeps.
+    /// It accepts requests with up to 256 messages ([`MAX_MESSAGES`]). `rt`: the right to wait,
+    /// which the window's writer keeps.
     pub fn new(
         alloc: Global,
         rt: R,

@@ -12,8 +12,8 @@ use std::alloc::Global;
 use std::test::Fail;
 use std::time::Duration;
 
-// The expected page for 72 values: 1, the greatest number, and 3 to 72. The values of the last three
-// metrics are missing. There are two shards.
+// The expected page for 72 values: 1, the greatest number, and 3 to 72. The last three metrics have
+// no values. There are two shards.
 const PAGE: &str = r#"# HELP bayeux_uptime_seconds_total Seconds since the program started.
 # TYPE bayeux_uptime_seconds_total counter
 bayeux_uptime_seconds_total 1
