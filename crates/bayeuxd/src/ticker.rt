@@ -31,7 +31,7 @@ const TELLING: u64 = 10;
 
 // How many file descriptors may be in use beside those of connections. If no more than these are
 // left, the log has a warning. Policy of this server.
-const OTHER_FILES: u64 = 16;
+const OTHER_FILES: u64 = 20;
 
 /// What the thread that posts ticks uses.
 #[derive(Drop)]
