@@ -212,12 +212,3 @@ def get_case(random, clients):
         query = parameters(random, clients)
     name, messages = read_parameters(query)
     return b"GET /cometd?%s HTTP/1.1\r\nhost: h\r\n\r\n" % query, lambda it: check_response(messages, it, name)
-
-
-def nested_case(random, _clients):
-    """Returns a POST of deeply nested data, and a function that checks the response."""
-    levels = random.choice((1, 2, 100, 123, 124, 125, 126, 127, 128, 129, 500, 20000))
-    body = b'[{"channel":"/a/b","clientId":"x","data":%s}]' % nested(random, levels).encode()
-    body = body[: -random.choice((0, 0, 0, 1, 2, levels)) or None]
-    messages = messages_of(body)
-    return post(body), lambda it: check_response(messages, it)
