@@ -292,23 +292,21 @@ def test_latency_of_50_90_99_and_100_percent(start, clock):
         assert 1000 * (sent - first) - 0.001 <= latency <= 1000 * (taken - load.start) * (1 + COARSE) + 0.001
 
 
-class PartsServer(Server):
-    """A server that sends each response in parts, with other fields in the head, and with the length in another form."""
+def test_parts_of_responses(start, clock):
+    """Whatever the fields of their heads, and the case and the form of the length."""
 
-    def send(self, socket, message, items):
+    def send_parts(socket, _, items):
         body = json.dumps(items).encode()
         name = (b"CONTENT-LENGTH:%d", b"Content-Length:  %d ")[len(body) % 2] % len(body)
         # A field as long as proxies allow by default.
         data = b"\r\n".join([b"HTTP/1.1 200 ", b"x-content-length: 1", name, b"Date: \t", b"x: " + b"x" * 8_000, b"", body])
         for part in (data[:9], data[9:40], data[40:-9], data[-9:]):
             socket.sendall(part)
-            self.clock.await_looks(2)
+            clock.await_looks(2)
         return True
 
-
-def test_parts_of_responses(start, clock):
-    """Whatever the case and the order of their fields."""
-    with PartsServer(clock) as server:
+    with Server(clock) as server:
+        server.send = send_parts
         start(server, f"2 1 1 {EVENTS}").check()
 
 
