@@ -137,25 +137,13 @@ def document(random, clients):
 
 
 def broken(random, body, tokens=TOKENS):
-    """Returns `body` with some bytes changed, removed, or added. Many of them are `tokens`."""
+    """Returns `body` with some bytes replaced, removed, or added. Many of them are `tokens`."""
     made = bytearray(body)
     for _ in range(random.choice((1, 1, 1, 2, 3, 8))):
-        at, end = sorted((random.randrange(len(made) + 1), random.randrange(len(made) + 1)))
-        way = random.randrange(7)
-        if way == 0 and made:
-            made[at % len(made)] ^= 1 << random.randrange(8)
-        elif way == 1:
-            del made[at : at + random.choice((1, 1, 2, 9))]
-        elif way == 2:
-            made[at:at] = random.choice(tokens)
-        elif way == 3:
-            made[at : at + 1] = random.choice(tokens)
-        elif way == 4:
-            made[at:at] = made[at:end][:300]
-        elif way == 5:
-            del made[end:]
-        else:
-            made[at:at] = nested(random, random.choice((1, 60, 124, 125, 126, 127, 128, 300))).encode()
+        at, end = sorted(random.randrange(len(made) + 1) for _ in range(2))
+        levels = random.choice((1, 60, 124, 125, 126, 127, 128, 300))
+        texts = b"", random.choice(tokens), random.choice(tokens), random.randbytes(1), made[at:end][:300], nested(random, levels).encode()
+        made[at : at + random.choice((0, 0, 1, 1, 2, 9, len(made)))] = random.choice(texts)
     return bytes(made)
 
 

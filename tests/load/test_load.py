@@ -268,20 +268,18 @@ def test_quiet_publishers_keep_their_sessions(start, clock):
 NO_LATENCY, STAGES, COARSE = 50, (90, 99, 100), 1 / 64
 
 
-class StagedServer(Server):
-    """A server that changes when events were sent, so that their latencies are known: a quarter of a second more for each stage."""
-
-    def before(self, message):
-        if kind_of(message) == "publish" and message["data"]["number"] in (NO_LATENCY, *STAGES[:-1]):
-            wait_until("a connect after the earlier events", self.has_read_all)
-            self.clock.add(0.25)
-
-    def publish(self, event):
-        super().publish(at_moment(event, NEVER if event["data"]["number"] < NO_LATENCY else 0))
-
-
 def test_latency_of_50_90_99_and_100_percent(start, clock):
-    with StagedServer(clock) as server:
+    """The server changes when events were sent, so that their latencies are known: a quarter of a second more for each stage."""
+    with Server(clock) as server:
+        publish = server.publish
+
+        def begin_stage(message):
+            if kind_of(message) == "publish" and message["data"]["number"] in (NO_LATENCY, *STAGES[:-1]):
+                wait_until("a connect after the earlier events", server.has_read_all)
+                clock.add(0.25)
+
+        server.before = begin_stage
+        server.publish = lambda event: publish(at_moment(event, NEVER if event["data"]["number"] < NO_LATENCY else 0))
         load = start(server, f"1 1 1 {STAGES[-1]}")
         least, *others = load.check()
     assert least == 0.0
