@@ -152,24 +152,22 @@ def test_events_that_a_server_treats_wrongly_are_counted(start, clock, deed):
     assert latencies[-1] > 0
 
 
-class SlowSetupServer(Server):
-    """A server that answers the last of `sessions` subscriptions a second late."""
+def delay_subscription(server, number):
+    """Lets the server answer the subscription with this number, counted from 1, a second late."""
 
-    def __init__(self, clock, sessions):
-        super().__init__(clock)
-        self.count = sessions
+    def before(message):
+        if [it[0] is message for it in server.kinds("/meta/subscribe")][number - 1 : number] == [True]:
+            server.clock.add(1.0)
+            server.clock.await_looks(20)
 
-    def before(self, message):
-        subscriptions = self.kinds("/meta/subscribe")
-        if len(subscriptions) >= self.count and subscriptions[self.count - 1][0] is message:
-            self.clock.add(1.0)
-            self.clock.await_looks(20)
+    server.before = before
 
 
 def test_shares_of_sessions_publishers_and_events(start, clock):
     """Sessions and publishers are divided among the channels, and events among the publishers, who wait for all subscriptions."""
     sessions, publishers = 5, 3
-    with SlowSetupServer(clock, sessions) as server:
+    with Server(clock) as server:
+        delay_subscription(server, sessions)
         start(server, f"{sessions} 2 {publishers} {EVENTS}").check()
     handshakes, subscriptions, publishes = (server.kinds(it) for it in ("/meta/handshake", "/meta/subscribe", "publish"))
     assert [it for it, _, _ in handshakes] == [HANDSHAKE] * (sessions + publishers)
@@ -234,7 +232,8 @@ def publish_in_turn(server, seconds, count, between=lambda number: None):
 def test_rate_of_publishes(start, clock):
     """No event is published before it is due."""
     rate, count = 5, 8
-    with SlowSetupServer(clock, 2) as server:
+    with Server(clock) as server:
+        delay_subscription(server, 2)
         load = start(server, f"2 1 {count} {count} {rate}")
         publish_in_turn(server, 1 / rate, count)
         load.check()
