@@ -32,7 +32,6 @@ from system import Clock, preloading  # noqa: E402
 SHOWN_LINES = 60
 DAEMONS = pytest.StashKey[list[Bayeuxd]]()
 STARTED = pytest.StashKey[float]()
-NO_COMPILER = "there is no C compiler"
 
 
 def pytest_addoption(parser):
@@ -240,10 +239,10 @@ def client():
 
 
 @pytest.fixture(scope="session")
-def system_library(tmp_path_factory):
-    """The path of tests/lib/system.c as a library. Skips the test if there is no C compiler."""
+def system_library(tmp_path_factory, skip):
+    """The path of tests/lib/system.c as a library. Skips the test, which the gate requires, if there is no C compiler."""
     if not base.has_compiler():
-        pytest.skip(NO_COMPILER)
+        skip("daemon", "there is no C compiler")
     return base.compile_library("tests/lib/system.c", tmp_path_factory.mktemp("system"))
 
 

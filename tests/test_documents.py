@@ -49,10 +49,6 @@ UNIT = {
 EXPOSURE = 12
 # The greatest width of a comment, and of the first sentence of a doc comment.
 WIDTH = 100
-# A section on errors that repeats the type of the result.
-IDLE_SECTION = re.compile(r"# Errors `AllocError` if memory runs out(?:; nothing has changed)?\.(?: #|$)")
-# Crates of tests and measurements.
-NO_PRODUCTS = re.compile(r"crates/(?:\w+_tests|bx_(?:bench|calls|gates|http_runs|refusals|testkit))/")
 DOC_COMMENT = re.compile(r"((?:^ *///.*\n)+)(?: *#\[.*\n)* *(?:pub(?:\([a-z]+\))? )?(?:unsafe )?(?:const )?fn ", re.MULTILINE)
 SENTENCE_END = re.compile(r"(?<=[.!?])\s+(?=[A-Z`*\[])")
 
@@ -326,12 +322,6 @@ def test_first_sentences_of_doc_comments_are_short() -> None:
     found = [(path, SENTENCE_END.split(squeezed([text.partition("\n\n")[0]]))[0]) for path, text in doc_comments()]
     assert len(found) > 500
     assert [(path, it) for path, it in found if len(it) > WIDTH] == []
-
-
-def test_sections_on_errors_say_more_than_the_type() -> None:
-    """A function whose only error is `AllocError` needs no section, unless something has changed after it."""
-    found = [(path, text) for path, text in doc_comments() if not NO_PRODUCTS.match(path)]
-    assert [it for it in found if IDLE_SECTION.search(squeezed([it[1]]))] == []
 
 
 def test_examples_in_comments_are_run() -> None:

@@ -11,7 +11,7 @@ import struct
 import pytest
 
 from base import readable, wait_until
-from daemon import CONNECT, MOST_MESSAGES, OWN_PAGES, SlowReader, check_serves, expect_status, get, open_session, post, publish_to
+from daemon import CONNECT, OWN_PAGES, SlowReader, check_serves, expect_status, get, open_session, post, publish_to
 from metrics import OPEN, OPENED, SERVED, ask_for
 
 # Errors of an accept that say something of the peer or of the system. The server then accepts the next connection.
@@ -20,8 +20,8 @@ ACCEPT_ERRORS = [
     *("EPROTONOSUPPORT", "ESOCKTNOSUPPORT", "EOPNOTSUPP", "ENETDOWN", "ENETUNREACH", "ENETRESET", "ECONNABORTED", "ECONNRESET"),
     *("ENOBUFS", "ETIMEDOUT", "EHOSTDOWN", "EHOSTUNREACH", "ENONET"),
 ]
-# The buffer of a client that does not read, and a smaller one with the bytes of a segment.
-SMALL_BUFFER, LEAST_BUFFER, SMALL_SEGMENT = 1 << 16, 4096, 536
+# The buffer of a client that does not read.
+SMALL_BUFFER = 1 << 16
 
 
 def test_next_connection_is_accepted_whatever_the_error_of_an_accept(daemon, system):
@@ -109,41 +109,6 @@ def test_responses_that_nobody_reads_share_their_events(daemon, client, clock, i
     server.expect({SERVED: served + count})
     server.wait_for_rest()
     assert (server.kilobytes() - before) * 1024 <= count * (30_000_000 if is_checked else 3_000_000)
-
-
-@pytest.mark.alone
-def test_replies_that_nobody_reads_need_little_memory(daemon, client, is_checked):
-    """A reply has about a hundred bytes. The daemon reserves four hundred more to write it, and does not keep them.
-
-    In half of all daemons, the C library keeps some of what was freed.
-    """
-    if is_checked:
-        pytest.skip("AddressSanitizer's own memory hides that of replies")
-    found = [growth_of_replies(daemon, client)]
-    while min(found) > 80 and len(found) < 12:
-        found.append(growth_of_replies(daemon, client))
-    assert min(found) <= 80, found
-
-
-def growth_of_replies(daemon, client):
-    """Returns how much more memory, in KiB, a new daemon needs for a response if it also has 255 replies, and nobody reads it."""
-    server, count = daemon(env={**os.environ, **OWN_PAGES}), 64
-    with client(server) as connection:
-        sessions = [open_session(connection) for _ in range(2 * count)]
-    publish_to(server.address, sessions, [{"channel": "/large", "data": "x" * 20_000} for _ in range(65)])
-
-    def growth(sessions, replies):
-        """Returns by how much memory grows for a response with the events of one of `sessions` and `replies` more replies, in KiB."""
-        before, served = server.kilobytes(), server.scrape()[SERVED]
-        for it in sessions:
-            connection = client(server, LEAST_BUFFER, SMALL_SEGMENT, kind=SlowReader)
-            connection.send(post(json.dumps([{"channel": "/a"}] * replies + [{**CONNECT, **it}]).encode()))
-        server.expect({SERVED: served + len(sessions)})
-        server.wait_for_rest()
-        return (server.kilobytes() - before) / len(sessions)
-
-    alone = growth(sessions[:count], 0)
-    return growth(sessions[count:], MOST_MESSAGES - 1) - alone
 
 
 @pytest.mark.alone

@@ -129,20 +129,16 @@ def test_limit_of_file_sizes_ends_the_record_alone(launch, clock):
     server.let_end(clock)
 
 
-@pytest.mark.parametrize("flags, status", [(["--wrong"], 2), (["--readers", "TAKEN"], 1), (["--version"], 0)], ids=lambda it: str(it))
-def test_status_is_that_of_the_daemon(launch, flags, status):
+STATUSES = [(["--wrong"], 2, {}), (["--readers", "TAKEN"], 1, {}), (["--version"], 0, {}), ([], 127, {"PATH": "/usr/bin:/bin"})]
+
+
+@pytest.mark.parametrize("flags, status, variables", STATUSES, ids=["wrong flag", "taken", "version", "no program"])
+def test_status_is_that_of_the_daemon(launch, flags, status, variables):
     with socket.create_server(("127.0.0.1", 0)) as taken:
         address = f"127.0.0.1:{taken.getsockname()[1]}"
-        server = launch(*(it.replace("TAKEN", address) for it in flags), waits=False)
+        server = launch(*(it.replace("TAKEN", address) for it in flags), waits=False, **variables)
         server.status = status
         assert server.process.wait(TIMEOUT_SECONDS) == status
-
-
-def test_status_without_a_program(launch, tmp_path):
-    (tmp_path / "bayeuxd run * " / "bayeuxd").unlink()
-    server = launch(waits=False, PATH="/usr/bin:/bin")
-    server.status = 127
-    assert server.process.wait(TIMEOUT_SECONDS) == 127
 
 
 def test_status_of_a_killed_daemon(launch):

@@ -13,7 +13,7 @@ import urllib.parse
 
 import pytest
 
-from base import has_compiler, readable, wait_until
+from base import readable, wait_until
 from daemon import CONNECT, FORM, HANDSHAKE, Connection, check_serves, get, post
 from documents import VALUES, message
 from recording import Check, read_record
@@ -167,13 +167,6 @@ class Client(threading.Thread):
 
 PATTERNS = ["/a/b", "/a/*", "/a/**", "/**", "/unheard"]
 CHOICES = [Client.publish] * 6 + [Client.connect] * 4 + [Client.send_some] * 3 + [Client.open] * 2 + [Client.cut]
-
-
-@pytest.fixture(scope="module", autouse=True)
-def can_record(skip):
-    """Skips these tests, which the gate requires, if the clock cannot be made."""
-    if not has_compiler():
-        skip("daemon", "there is no C compiler")
 
 
 def check_responses(path, clients):

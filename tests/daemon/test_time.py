@@ -2,7 +2,7 @@
 import time
 
 from base import wait_until
-from daemon import OWN_PAGES, expect_error, expect_success, open_session, publish, send_connect, subscribe
+from daemon import expect_error, expect_success, open_session, publish, send_connect, subscribe
 from metrics import CONNECTS_HELD, FILED, OPEN, REQUESTS_HELD, SESSIONS, SWEPT, TICKED, UPTIME, read_list
 
 CHANNEL = "/time"
@@ -10,14 +10,12 @@ CHANNEL = "/time"
 LIVE, SHARDS = 17, 16
 # After how many ticks an answer that nobody takes is dropped: a second if there are more than live sessions, otherwise a minute.
 CROWDED, KEPT = 10, 600
-# The number of large answers, and their bytes.
-LARGE, BYTES = 32, 200_000
 
 
-def leave_answers(server, client, sessions, ticks, events=(("/all", 1),)):
+def leave_answers(server, client, sessions, ticks):
     """Leaves an answer that nobody takes for each of `sessions`, and returns the number of ticks before these.
 
-    Their connects are held, their connections close, and then `events`, pairs of a channel and data, answer the connects.
+    Their connects are held, their connections close, and then an event answers the connects.
     """
     server.expect({OPEN: 0}, pause=ticks.tick)
     connections = [client(server) for _ in sessions]
@@ -28,8 +26,7 @@ def leave_answers(server, client, sessions, ticks, events=(("/all", 1),)):
         connection.socket.close()
     before = server.expect({OPEN: 0, REQUESTS_HELD: 0, CONNECTS_HELD: len(sessions)}, pause=ticks.tick)[TICKED]
     with client(server) as connection:
-        for event in events:
-            publish(connection, *event, sessions[0])
+        publish(connection, "/all", 1, sessions[0])
     server.expect({CONNECTS_HELD: 0}, pause=ticks.tick)
     return before
 
@@ -82,25 +79,6 @@ def test_answer_that_nobody_takes_is_kept_for_a_minute(daemon, client, ticks):
     assert server.expect({FILED: 1, SWEPT: 2}, pause=ticks.tick)[TICKED] - began <= CROWDED + 5
     ticks.tick(5)
     assert server.scrape()[FILED] == 1
-
-
-def test_memory_of_dropped_answers_is_used_again(daemon, client, ticks):
-    server = daemon("--shards", "4", env={**ticks.env, **OWN_PAGES})
-    sessions, events = open_subscribed(server, client, LARGE), [(f"/large/{it}", "x" * BYTES) for it in range(LARGE)]
-    with client(server) as connection:
-        for session, (channel, _) in zip(sessions, events):
-            subscribe(connection, channel, session)
-    before, taken = server.kilobytes(), []
-    for _ in range(2):
-        leave_answers(server, client, sessions, ticks, events)
-        server.expect({FILED: LARGE}, pause=ticks.tick)
-        # Then the window has dropped the events.
-        ticks.tick(10)
-        taken.append(server.kilobytes() - before)
-        ticks.tick(KEPT)
-        server.expect({FILED: 0}, pause=ticks.tick)
-    assert taken[0] * 1024 >= LARGE * BYTES, "the answers are not kept"
-    assert taken[1] <= 1.5 * taken[0]
 
 
 def test_connect_is_held_for_the_timeout(daemon, client, ticks):

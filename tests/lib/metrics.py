@@ -11,9 +11,8 @@ OPEN, OPENED, SESSIONS = ("bayeux_connections", ""), ("bayeux_connections_total"
 REQUESTS_HELD, CONNECTS_HELD = ("bayeux_requests_held", ""), ("bayeux_connects_held", "")
 FILED, SWEPT = ("bayeux_answers_filed", ""), ("bayeux_answers_swept_total", "")
 SERVED = ("bayeux_responses_total", '{status="200"}')
-# The two kinds of lines of a page: a comment, and a value with its name and labels.
-COMMENT = re.compile(r"# (HELP|TYPE) ([a-z_]+) (?:counter|gauge|histogram|[A-Z][^\\]*\.)")
-SAMPLE = re.compile(r'([a-z_]+)(|\{[a-z]+="[^"\\]+"(?:,[a-z]+="[^"\\]+")*\}) ([0-9]+(?:\.[0-9]+)?)')
+# A value of a page, with its name and labels.
+SAMPLE = re.compile(r"([a-z_]+)(|\{[^}]*\}) ([0-9]+(?:\.[0-9]+)?)")
 
 
 def ask_for(address, request):
@@ -26,21 +25,12 @@ def ask_for(address, request):
 
 
 def read_page(text):
-    """Returns the values of a page of metrics, by name and labels. It must be in Prometheus' text format 0.0.4."""
-    values, family, members, comments = {}, None, [], set()
-    assert text.endswith("\n")
-    for line in text[:-1].split("\n"):
-        comment, sample = COMMENT.fullmatch(line), SAMPLE.fullmatch(line)
-        if comment:
-            keyword, name = comment.group(1, 2)
-            assert (keyword, name) not in comments and (keyword == "TYPE") == (name == family), line
-            comments.add((keyword, name))
-            family = name
-            members = [f"{name}{it}" for it in ("_bucket", "_sum", "_count") if line.endswith(" histogram")]
-        else:
-            assert sample and sample.group(1) in (family, *members) and ("TYPE", family) in comments, line
-            assert sample.group(1, 2) not in values, line
-            values[sample.group(1, 2)] = json.loads(sample.group(3))
+    """Returns the values of a page of metrics, by name and labels. Whether its form is right otherwise, promtool checks in test_metrics.py."""
+    lines = [it for it in text.splitlines() if not it.startswith("# ")]
+    samples = [SAMPLE.fullmatch(it) for it in lines]
+    assert all(samples), [line for line, it in zip(lines, samples) if not it]
+    values = {it.group(1, 2): json.loads(it[3]) for it in samples}
+    assert len(values) == len(samples), "a value occurs twice"
     return values
 
 

@@ -38,11 +38,11 @@ class Tree:
         self.write("crates.txt", "".join(f"{it}:\n" for it in PROGRAMS))
         for it in PROGRAMS:
             self.write(f"crates/{it}/src/main.rt", f"fn {it}() {{}}\n")
-        self.write("../kit/bin/rt", "", 0o755)
-        self.write("../kit/KIT-ID", f"kit {self.python(CALL.format('print(repository.LOGIC)'))}")
         # The search paths for programs, without the toolchain and with it.
         self.bare_path = f"{folder}/bin:/usr/bin:/bin"
         self.path = f"{folder}/kit/bin:{self.bare_path}"
+        self.write("../kit/bin/rt", "", 0o755)
+        self.write("../kit/KIT-ID", f"kit {self.python(CALL.format('print(repository.LOGIC)'))}")
         os.mkdir(f"{folder}/bin")
         os.symlink(sys.executable, f"{folder}/bin/python3")
 
@@ -53,11 +53,11 @@ class Tree:
         file.write_bytes(data if isinstance(data, bytes) else data.encode())
         file.chmod(mode)
 
-    def python(self, text, *args, path=None):
-        """Runs a Python text in the folder, and returns its output. `path`: the search path for programs."""
-        env = {**os.environ, "PATH": path or os.environ["PATH"]}
-        how = {"cwd": self.top, "env": env, "stdout": subprocess.PIPE, "text": True, "timeout": 60, "check": True}
-        return subprocess.run([sys.executable, "-c", text, *args], **how).stdout.strip()
+    def python(self, text, *args):
+        """Runs a Python text in the folder, and returns its output."""
+        status, output, errors = self.call(sys.executable, "-c", text, *args)
+        assert status == 0, errors
+        return output
 
     def call(self, *args, path=None):
         """Runs a command in the folder, and returns its status, its output and its errors. `path`: the search path for programs."""
@@ -75,7 +75,7 @@ class Tree:
         """Makes each program proved and built from the current sources, with `text` as its content."""
         for it in PROGRAMS:
             self.write(f"crates/{it}/out/{it}", text, 0o755)
-            self.python(RECORD, f"crates/{it}/out/{it}", it, path=self.path)
+            self.python(RECORD, f"crates/{it}/out/{it}", it)
 
     def release(self):
         """Makes a release of the current sources."""
@@ -86,7 +86,7 @@ class Tree:
                 head.size = len(data)
                 archive.addfile(head, io.BytesIO(data))
         self.write(f"dist/{ARCHIVE}.tar.gz", content.getvalue())
-        self.python(DESCRIBE, path=self.path)
+        self.python(DESCRIBE)
 
     def damage(self):
         """Adds a byte to the archive of the release."""

@@ -152,24 +152,22 @@ def test_events_that_a_server_treats_wrongly_are_counted(start, clock, deed):
     assert latencies[-1] > 0
 
 
-class SlowSetupServer(Server):
-    """A server that answers the last of `sessions` subscriptions a second late."""
+def delay_subscription(server, number):
+    """Lets the server answer the subscription with this number, counted from 1, a second late."""
 
-    def __init__(self, clock, sessions):
-        super().__init__(clock)
-        self.count = sessions
+    def before(message):
+        if [it[0] is message for it in server.kinds("/meta/subscribe")][number - 1 : number] == [True]:
+            server.clock.add(1.0)
+            server.clock.await_looks(20)
 
-    def before(self, message):
-        subscriptions = self.kinds("/meta/subscribe")
-        if len(subscriptions) >= self.count and subscriptions[self.count - 1][0] is message:
-            self.clock.add(1.0)
-            self.clock.await_looks(20)
+    server.before = before
 
 
 def test_shares_of_sessions_publishers_and_events(start, clock):
     """Sessions and publishers are divided among the channels, and events among the publishers, who wait for all subscriptions."""
     sessions, publishers = 5, 3
-    with SlowSetupServer(clock, sessions) as server:
+    with Server(clock) as server:
+        delay_subscription(server, sessions)
         start(server, f"{sessions} 2 {publishers} {EVENTS}").check()
     handshakes, subscriptions, publishes = (server.kinds(it) for it in ("/meta/handshake", "/meta/subscribe", "publish"))
     assert [it for it, _, _ in handshakes] == [HANDSHAKE] * (sessions + publishers)
@@ -234,7 +232,8 @@ def publish_in_turn(server, seconds, count, between=lambda number: None):
 def test_rate_of_publishes(start, clock):
     """No event is published before it is due."""
     rate, count = 5, 8
-    with SlowSetupServer(clock, 2) as server:
+    with Server(clock) as server:
+        delay_subscription(server, 2)
         load = start(server, f"2 1 {count} {count} {rate}")
         publish_in_turn(server, 1 / rate, count)
         load.check()
@@ -268,20 +267,18 @@ def test_quiet_publishers_keep_their_sessions(start, clock):
 NO_LATENCY, STAGES, COARSE = 50, (90, 99, 100), 1 / 64
 
 
-class StagedServer(Server):
-    """A server that changes when events were sent, so that their latencies are known: a quarter of a second more for each stage."""
-
-    def before(self, message):
-        if kind_of(message) == "publish" and message["data"]["number"] in (NO_LATENCY, *STAGES[:-1]):
-            wait_until("a connect after the earlier events", self.has_read_all)
-            self.clock.add(0.25)
-
-    def publish(self, event):
-        super().publish(at_moment(event, NEVER if event["data"]["number"] < NO_LATENCY else 0))
-
-
 def test_latency_of_50_90_99_and_100_percent(start, clock):
-    with StagedServer(clock) as server:
+    """The server changes when events were sent, so that their latencies are known: a quarter of a second more for each stage."""
+    with Server(clock) as server:
+        publish = server.publish
+
+        def begin_stage(message):
+            if kind_of(message) == "publish" and message["data"]["number"] in (NO_LATENCY, *STAGES[:-1]):
+                wait_until("a connect after the earlier events", server.has_read_all)
+                clock.add(0.25)
+
+        server.before = begin_stage
+        server.publish = lambda event: publish(at_moment(event, NEVER if event["data"]["number"] < NO_LATENCY else 0))
         load = start(server, f"1 1 1 {STAGES[-1]}")
         least, *others = load.check()
     assert least == 0.0
@@ -292,23 +289,21 @@ def test_latency_of_50_90_99_and_100_percent(start, clock):
         assert 1000 * (sent - first) - 0.001 <= latency <= 1000 * (taken - load.start) * (1 + COARSE) + 0.001
 
 
-class PartsServer(Server):
-    """A server that sends each response in parts, with other fields in the head, and with the length in another form."""
+def test_parts_of_responses(start, clock):
+    """Whatever the fields of their heads, and the case and the form of the length."""
 
-    def send(self, socket, message, items):
+    def send_parts(socket, _, items):
         body = json.dumps(items).encode()
         name = (b"CONTENT-LENGTH:%d", b"Content-Length:  %d ")[len(body) % 2] % len(body)
         # A field as long as proxies allow by default.
         data = b"\r\n".join([b"HTTP/1.1 200 ", b"x-content-length: 1", name, b"Date: \t", b"x: " + b"x" * 8_000, b"", body])
         for part in (data[:9], data[9:40], data[40:-9], data[-9:]):
             socket.sendall(part)
-            self.clock.await_looks(2)
+            clock.await_looks(2)
         return True
 
-
-def test_parts_of_responses(start, clock):
-    """Whatever the case and the order of their fields."""
-    with PartsServer(clock) as server:
+    with Server(clock) as server:
+        server.send = send_parts
         start(server, f"2 1 1 {EVENTS}").check()
 
 

@@ -2,6 +2,7 @@
 
 Each call of records.txt is a test: `./bayeux test records -k WORD`.
 """
+import contextlib
 import difflib
 import functools
 import hashlib
@@ -190,18 +191,15 @@ class Growing:
 @pytest.fixture
 def growing(replay_program: str, tmp_path: Path) -> Iterator[Callable[..., Growing]]:
     """Starts a check of a record that grows: `growing(replay)`. It ends with the test."""
-    started: list[Growing] = []
+    with contextlib.ExitStack() as stack:
 
-    def start(replay: str = replay_program) -> Growing:
-        started.append(Growing(tmp_path / "growing", replay))
-        return started[-1]
+        def start(replay: str = replay_program) -> Growing:
+            it = Growing(tmp_path / "growing", replay)
+            for end in (it.file.close, it.process.communicate, it.process.kill):
+                stack.callback(end)
+            return it
 
-    yield start
-    for it in started:
-        it.file.close()
-        if it.process.poll() is None:
-            it.process.kill()
-        it.process.communicate()
+        yield start
 
 
 def test_follow_compares_a_record_that_grows_until_an_interrupt(growing) -> None:
@@ -421,14 +419,10 @@ def ask_unwritable(ask: Ask, args: list[str], text: bytes, output: str) -> Resul
     """Calls `ask` with an output that cannot be written: a `full` disk, a `pipe` without a reader, or `closed`."""
     if output == "closed":
         return ask(args, text, program=["sh", "-c", 'exec "$0" "$@" >&-', REPLAY_RECORD])
-    reader, pipe = os.pipe()
+    reader, writer = os.pipe()
     os.close(reader)
-    stdout = os.open("/dev/full", os.O_WRONLY) if output == "full" else pipe
-    try:
-        return ask(args, text, stdout=stdout)
-    finally:
-        for it in {stdout, pipe}:
-            os.close(it)
+    with open(writer, "wb") as pipe, open("/dev/full", "wb") as full:
+        return ask(args, text, stdout=full if output == "full" else pipe)
 
 
 @pytest.mark.parametrize("output", UNWRITABLE)

@@ -20,7 +20,6 @@ PIPELINED = {
     "documents": (documents.post_case, 512),
     "forms": (documents.form_case, 256),
     "queries": (documents.get_case, 256),
-    "nested": (documents.nested_case, 64),
 }
 STREAMS = {"streams": (streams.stream, 64), "cuts": (streams.cut, 64)}
 

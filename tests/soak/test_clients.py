@@ -15,7 +15,7 @@ import pytest
 
 import streams
 from base import wait_until
-from daemon import Connection, ConnectionEnded, check_serves, get, post
+from daemon import ConnectionEnded, check_serves, get, post
 from recording import Check
 from strace import STRACE, can_trace
 from subscriber import Publisher, Subscriber, check_events
@@ -68,33 +68,6 @@ class Unlucky(Subscriber):
         return super().take(items)
 
 
-class Rider(Subscriber):
-    """A subscriber that also gets events in replies to its publishes, in any order, but none twice."""
-
-    def __init__(self, address, pattern, number):
-        super().__init__(address, pattern, is_acknowledging=False)
-        self.random, self.lock, self.rider = random.Random(number), threading.Lock(), threading.Thread(target=self.ride, daemon=True)
-
-    def keep(self, channel, number):
-        with self.lock:
-            assert (channel, number) not in self.last
-            self.last[channel, number] = True
-            self.events.append((channel, number))
-
-    def work(self):
-        self.rider.start()
-        super().work()
-        self.rider.join()
-
-    def ride(self):
-        """Publishes to a service channel, to which nobody is subscribed."""
-        with Connection(self.address) as connection:
-            while not self.is_over.wait(self.random.choice((0, 0.01, 0.1, 0.5))):
-                connection.renew()
-                for it in connection.ask([{"channel": "/service/ride", "data": 0, **self.session}])[:-1]:
-                    self.keep(it["channel"], it["data"][0])
-
-
 def annoy(server, number, is_over):
     """Sends invalid and unlucky requests until `is_over` is set. `number`: chooses them."""
     chance = random.Random(f"annoyer {number}")
@@ -106,8 +79,8 @@ def annoy(server, number, is_over):
             streams.check_slow(chance, server.address)
 
 
-def run_clients(server, publishers, subscribers, serves=check_serves):
-    """Runs clients for SECONDS, and returns samples of the daemon's memory in KiB. `serves`: serves a new client at each sample."""
+def run_clients(server, publishers, subscribers):
+    """Runs clients for SECONDS, and returns samples of the daemon's memory in KiB. At each sample, a new client is served."""
     is_over, samples, clients = threading.Event(), [], [*publishers, *subscribers]
     annoyers = [threading.Thread(target=annoy, args=(server, it, is_over), daemon=True) for it in range(2)]
     for it in [*clients, *annoyers]:
@@ -115,7 +88,7 @@ def run_clients(server, publishers, subscribers, serves=check_serves):
     try:
         for _ in range(SAMPLES):
             time.sleep(SECONDS / SAMPLES)
-            serves(server.address, "/new")
+            check_serves(server.address, "/new")
             samples.append(server.kilobytes())
             assert not [it.wrong for it in clients if it.wrong]
     finally:
@@ -155,14 +128,3 @@ def test_unlucky_clients_lose_nothing(daemon, is_checked, tmp_path, replay_progr
     quarter = SAMPLES // 4
     growth = statistics.median(samples[-quarter:]) - statistics.median(samples[quarter : 2 * quarter])
     assert growth <= KEPT_FREE or is_checked
-
-
-def test_riders_get_nothing_twice(daemon):
-    """And all, since they are never cut."""
-    server = daemon("--ride", *FLAGS)
-    publishers = [Publisher(server.address, f"/soak/{it}", 1 / RATE) for it in range(PUBLISHERS)]
-    riders = [Rider(server.address, "/soak/*", it) for it in range(SUBSCRIBERS)]
-    # The client of `check_serves` expects no events in replies to publishes.
-    run_clients(server, publishers, riders, lambda *_: None)
-    wanted = {(it.channel, number) for it in publishers for number in it.answered}
-    assert all(set(it.events) == wanted for it in riders)
