@@ -1,12 +1,10 @@
-"""The chat in two windows: messages, connections that break, and users who leave. From disk, and behind nginx."""
+"""The chat in two windows: messages, and users who leave. From disk, and behind nginx."""
 from __future__ import annotations
 
 import pytest
 
 from base import TOP, wait_until
 from pages import talk
-
-CHANNEL = "/chat/hall"
 
 
 @pytest.fixture(params=["callback-polling", "long-polling"])
@@ -31,28 +29,6 @@ def test_two_windows_show_each_message(transport, ann_and_ben, picture):
     talk(ann, ben)
     picture(ann, "chat")
     assert [len(it.texts("#messages li.own")) for it in (ann, ben)] == [2, 1]
-
-
-def test_no_message_is_lost_or_repeated_if_connections_break(server, ann_and_ben):
-    """First connections are cut. Then each session loses a response."""
-    sent = [f"Sent while the line was broken: {number}" for number in range(1, 4)]
-    server.relay.cut()
-    for it in ann_and_ben:
-        it.wait_state("interrupted")
-    server.publish(CHANNEL, *({"name": "Cleo", "text": text} for text in sent))
-    server.relay.target = server.daemon.address
-    for it in ann_and_ben:
-        it.wait_state("connected")
-        it.wait_messages(sent)
-    sessions = len({it.run("return client.clientId") for it in ann_and_ben})
-    server.relay.loses_responses = True
-    sent.append("In a response that was lost, and came again")
-    server.publish(CHANNEL, {"name": "Cleo", "text": sent[-1]})
-    wait_until("each session has lost a response", lambda: server.relay.lost >= sessions)
-    server.relay.loses_responses = False
-    server.publish(CHANNEL, {"name": "Cleo", "text": "The last one"})
-    for it in ann_and_ben:
-        it.wait_messages([*sent, "The last one"])
 
 
 def test_the_others_see_who_leaves_and_the_session_ends_at_once(server, ann_and_ben):

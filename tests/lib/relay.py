@@ -1,4 +1,4 @@
-"""A relay that breaks connections and loses responses."""
+"""A relay that breaks connections, and delays responses."""
 from __future__ import annotations
 
 import contextlib
@@ -13,8 +13,7 @@ from base import TIMEOUT_SECONDS, readable
 class Relay(socketserver.ThreadingTCPServer):
     """Forwards connections to the address `target`, while there is one. Otherwise it closes them.
 
-    While `loses_responses` is set, it closes a connection when the server sends something, and counts it in `lost`. While
-    `released` is not set, it keeps what the server sends.
+    While `released` is not set, it keeps what the server sends.
     """
 
     daemon_threads = True
@@ -22,7 +21,6 @@ class Relay(socketserver.ThreadingTCPServer):
     def __init__(self) -> None:
         super().__init__(("127.0.0.1", 0), socketserver.BaseRequestHandler)
         self.target: tuple[str, int] | None = None
-        self.loses_responses, self.lost = False, 0
         self.released = threading.Event()
         self.released.set()
         self.open: set[socket.socket] = set()
@@ -44,9 +42,6 @@ class Relay(socketserver.ThreadingTCPServer):
         """Copies what has arrived. Returns whether the connection continues."""
         for side in readable(client, upstream, seconds=None):
             data = side.recv(1 << 16)
-            if side is upstream and self.loses_responses:
-                self.lost += 1
-                return False
             if not data:
                 return False
             if side is upstream:
