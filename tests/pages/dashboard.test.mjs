@@ -130,7 +130,7 @@ test('the page of metrics', () => {
   const publish = (changed = {}, meanings = help) => {
     const zeros = Object.fromEntries([1, 0, -2, 0].map((value, at) => [`bayeux_z{a="${at}"}`, value]));
     const metrics = {
-      bayeux_sessions: 3, [named]: 10, 'bayeux_x_total{kind="c"}': 0, 'bayeux_lag_bucket{le="1"}': 4, bayeux_lag_count: 7, bayeux_zero: 0,
+      bayeux_sessions: 3, [named]: 10, 'bayeux_x_total{kind="c"}': 0, 'bayeux_lag_bucket{le="1"}': 4, bayeux_lag_count: 7, 'bayeux_<b>zero': 0,
       bayeux_text: '3', 'bayeux_y{a="1"}': 0, 'bayeux_y{a="2"}': 0, bayeux_a_total_count_b: 5, bayeux_own_sum: 6, ...zeros,
     };
     listener({ metrics: { ...metrics, bayeux_uptime_seconds_total: page.now / 1000, ...changed }, help: meanings }, '/metrics/all');
@@ -145,7 +145,7 @@ test('the page of metrics', () => {
     ['x (total)', 'bayeux_x_total', '', `${quoted},{b},c 10`],
     ['lag bucket', 'bayeux_lag_bucket', 'The lag.', '1 4'],
     ['lag count', 'bayeux_lag_count', 'The lag.', '7'],
-    ['zero', 'bayeux_zero', '', '0'],
+    ['<b>zero', 'bayeux_<b>zero', '', '0'],
     ['y', 'bayeux_y', '', 'each 0'],
     ['a total count b', 'bayeux_a_total_count_b', '', '5'],
     ['own sum', 'bayeux_own_sum', 'Its own.', '6'],

@@ -22,7 +22,7 @@ const { JSDOM } = (() => {
 })();
 
 /** Returns the paths of the scripts of the page `name`, from examples/ on. */
-export function scriptsOf(name) {
+function scriptsOf(name) {
   return [...read(name).matchAll(/<script src="([^"]+)">/g)].map(([, path]) => new URL(path, `file:///${name}`).pathname.slice(1));
 }
 

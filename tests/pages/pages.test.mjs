@@ -1,10 +1,6 @@
 // What the pages of examples have in common, and the scripts of documents, without a browser.
 import assert from 'node:assert/strict';
-import { HOSTILE, NO_ANSWER, Page, PAGES, read, scriptsOf, SITE, test } from './page_place.mjs';
-
-// What runs a text as HTML or as a script.
-const SINKS = new RegExp('\\.(?:innerHTML|outerHTML|srcdoc|insertAdjacentHTML|setHTMLUnsafe|createContextualFragment|parseFromString)\\b'
-  + '|document\\.write|\\beval\\(|new Function\\(');
+import { HOSTILE, NO_ANSWER, Page, PAGES, read, SITE, test } from './page_place.mjs';
 
 /** Returns the code in `language` of a page of docs that has `text`. */
 function codeOf(page, language, text) {
@@ -129,7 +125,7 @@ test('the example that loads the state', async () => {
   assert.deepEqual([prices, states.length], [['10', '12', '12', '13'], 1]);
 });
 
-// What a screen reader announces without being asked (WCAG 2, 4.1.3), and that no page runs a text as HTML or as a script.
+// What a screen reader announces without being asked (WCAG 2, 4.1.3), and that the Content-Security-Policy allows all of a page.
 test('the files of the pages', () => {
   for (const name of PAGES) {
     const text = read(name);
@@ -137,8 +133,5 @@ test('the files of the pages', () => {
     if (name.startsWith('chat/')) live.push('id="problem" role="alert"', 'aria-live="polite"');
     assert.deepEqual(live.filter((it) => !text.includes(it)), [], name);
     assert.deepEqual(text.match(/<script(?! src="[\w./-]+"><\/script>)|\son\w+=|javascript:|style=/g), null, `${name} has inline scripts or styles`);
-  }
-  for (const script of [...PAGES.flatMap(scriptsOf), '../crates/bx_metrics/src/status_page.rt']) {
-    assert.equal(read(script).match(SINKS), null, script);
   }
 });

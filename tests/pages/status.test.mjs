@@ -137,7 +137,7 @@ test('each row of a key has the colour of its curve', async () => {
   const page = new Page();
   const refused = (reason, value) => `bayeux_requests_refused_total{status="400",reason="${reason}"} ${value}\n`;
   const lags = (count) => Array.from({ length: count }, (_, shard) => `bayeux_shard_lag_entries{shard="${shard}"} ${shard}\n`).join('');
-  const text = (count) => `${metrics(1)}${refused('quiet', 0)}${refused('first', count)}${refused('second', 2 * count)}${lags(14)}`;
+  const text = (count) => `${metrics(1)}${refused('quiet', 0)}${refused('<b>first', count)}${refused('second', 2 * count)}${lags(14)}`;
   await page.answer(text(0));
   await page.next(text(30));
   const rows = (title) => [...page.chart(title).querySelectorAll('.key li')].map((it) => [it.querySelector('i').style.background, it.textContent]);
@@ -145,7 +145,7 @@ test('each row of a key has the colour of its curve', async () => {
   const seconds = page.timer.milliseconds / 1000;
   // The place of each series among the curves, its name and its value.
   const wanted = {
-    'Refusals': [[1, '400 first', 30 / seconds], [2, '400 second', 60 / seconds]],
+    'Refusals': [[1, '400 <b>first', 30 / seconds], [2, '400 second', 60 / seconds]],
     'Shard lag': Array.from({ length: 12 }, (_, at) => [13 - at, `shard ${13 - at}`, 13 - at]),
   };
   for (const isRead of [true, false]) {
