@@ -17,9 +17,9 @@ def transport(request):
 def ann_and_ben(transport, server, request, chat):
     """Two windows of the chat."""
     if transport == "callback-polling":
-        address = f"file://{TOP}/examples/chat/index.html?server={server.relay.address}"
+        address = f"file://{TOP}/examples/chat/index.html?server={server.address}"
     else:
-        address = f"{request.getfixturevalue('nginx')(server.relay.port)}/chat/"
+        address = f"{request.getfixturevalue('nginx')(server.port)}/chat/"
     return chat(address, "Ann"), chat(address, "Ben")
 
 

@@ -13,7 +13,7 @@ from pages import Client
 
 def test_frozen_page_reports_a_gap_since_before_the_first_lost_event(server, blank, tmp_path):
     """A response that arrives while the page is frozen does not hide that later events are lost."""
-    log = tmp_path / f"nginx-{server.relay.port}/var/log/nginx/access.log"
+    log = tmp_path / f"nginx-{server.port}/var/log/nginx/access.log"
     page = blank()
     client = Client(page, "/a", share=False)
     client.wait_state("connected")
@@ -41,10 +41,10 @@ def test_frozen_page_reports_a_gap_since_before_the_first_lost_event(server, bla
 def leave_and_return(server, page: Window, address: str) -> None:
     """Goes to another page of the same site, and presses Back. The browser must have kept the page.
 
-    Chromium drops a page that gets a response meanwhile, so the relay keeps the responses.
+    Chromium drops a page that gets a response meanwhile, so there is none.
     """
     page.run("window.isKept = true")
-    with server.relay.holding():
+    with server.pausing():
         page.driver.get(f"{address}/common/page.css")
         page.driver.back()
     assert page.run("return window.isKept"), "the browser has not kept the page"
@@ -52,7 +52,7 @@ def leave_and_return(server, page: Window, address: str) -> None:
 
 @pytest.mark.parametrize("changes", [{}, {" http2": ""}], ids=["HTTP/2", "HTTP/1.1"])
 def test_chat_continues_after_back(server, nginx, chat, changes):
-    address = nginx(server.relay.port, changes)
+    address = nginx(server.port, changes)
     ann, ben = chat(f"{address}/chat/", "Ann"), chat(f"{address}/chat/", "Ben")
     leave_and_return(server, ann, address)
     ann.wait_state("connected")
