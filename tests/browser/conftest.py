@@ -15,12 +15,6 @@ from daemon import Connection, HANDSHAKE
 from pages import Chat
 
 WINDOWS = pytest.StashKey[list]()
-# A blank page that has the client as a script, in front of the location of all pages.
-BLANK = """location = /blank {
-    default_type text/html;
-    return 200 '<!DOCTYPE html><link rel="icon" href="data:,"><script src="/client/bayeux.js"></script>';
-}
-location / {"""
 
 
 def pytest_collection_modifyitems(items: list[pytest.Item]) -> None:
@@ -123,13 +117,6 @@ def windows(browser: Browser, request: pytest.FixtureRequest) -> Iterator[Callab
 def window(browser: Browser, windows: Callable) -> Callable[..., Window]:
     """Opens windows: `window(address)`. They are closed after the test."""
     return lambda *arguments: windows(Window(browser, *arguments))
-
-
-@pytest.fixture
-def blank(server: Server, nginx: Callable, window: Callable) -> Callable[[], Window]:
-    """Opens windows of a blank page: `blank()`. With HTTP/1.1, Chromium has six connections to nginx, which passes them to `server`."""
-    address = nginx(server.port, {" http2": "", "location / {": BLANK})
-    return lambda: window(f"{address}/blank")
 
 
 @pytest.fixture

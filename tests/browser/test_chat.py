@@ -4,7 +4,11 @@ from __future__ import annotations
 import pytest
 
 from base import TOP, wait_until
+from metrics import CONNECTS_HELD
 from pages import talk
+
+# Keeps the client of a page from noticing that it closes, as if its process had failed.
+IGNORE_CLOSE = "window.addEventListener('pagehide', (it) => it.stopImmediatePropagation(), true)"
 
 
 @pytest.fixture(params=["callback-polling", "long-polling"])
@@ -43,3 +47,20 @@ def test_the_others_see_who_leaves_and_the_session_ends_at_once(server, ann_and_
     assert server.has_session(ids[1])
     ben.driver.get("about:blank")
     wait_until("the session of Ben has ended", lambda: not server.has_session(ids[1]))
+
+
+def test_windows_share_one_session_and_another_one_continues_with_it(server, nginx, chat):
+    """Eight clients are more than the six connections that a browser opens with HTTP/1.1. It ends the lock of a window that closes."""
+    address = f"{nginx(server.port, {' http2': ''})}/chat/"
+    ann, ben = chat(address, "Ann"), chat(address, "Ben")
+    session = ann.run("return client.clientId")
+    for it in (ann, ben):
+        it.run("return Promise.all([1, 2, 3].map(() => new BayeuxClient('/cometd').start()))")
+        assert it.run("return client.clientId") == session
+    server.daemon.expect({CONNECTS_HELD: 1})
+    talk(ann, ben)
+    ann.run(IGNORE_CLOSE)
+    ann.driver.get("about:blank")
+    ben.send("After the close")
+    wait_until("the message is shown", lambda: ben.messages()[3:] == ["After the close"])
+    assert (ben.run("return client.clientId"), "may be missing" in ben.text(".notice")) == (session, False)

@@ -8,15 +8,21 @@ import pytest
 from base import wait_until
 from browser import Window
 from metrics import CONNECTS_HELD
-from pages import Client
+
+# Records the data of events, and the moment of each gap in milliseconds.
+RECORD = """
+Object.assign(window, { seen: [], moments: [] });
+client.addEventListener('gap', ({ since }) => moments.push(since.getTime()));
+return client.subscribe('/a', (data) => seen.push(data));
+"""
 
 
-def test_frozen_page_reports_a_gap_since_before_the_first_lost_event(server, blank, tmp_path):
+def test_frozen_page_reports_a_gap_since_before_the_first_lost_event(server, nginx, window, tmp_path):
     """A response that arrives while the page is frozen does not hide that later events are lost."""
     log = tmp_path / f"nginx-{server.port}/var/log/nginx/access.log"
-    page = blank()
-    client = Client(page, "/a", share=False)
-    client.wait_state("connected")
+    page = window(f"{nginx(server.port)}/dashboard/")
+    page.wait_state("connected")
+    page.run(RECORD)
     server.daemon.expect({CONNECTS_HELD: 1})
     answered = log.read_text()
     # As a phone does while it is locked.
@@ -29,12 +35,10 @@ def test_frozen_page_reports_a_gap_since_before_the_first_lost_event(server, bla
     server.publish("/a", "lost")
     page.command("Page.setWebLifecycleState", state="active")
     page.show()
-    wait_until("the client reports a gap", lambda: client.gaps)
-    client.wait_state("connected")
+    [gap] = wait_until("the client reports a gap", lambda: page.run("return moments"))
+    page.wait_state("connected")
     server.publish("/a", "after the return")
-    client.wait_event("after the return")
-    assert client.events == ["arrives at the frozen page", "after the return"]
-    [gap] = client.gaps
+    wait_until("the next event comes", lambda: page.run("return seen") == ["arrives at the frozen page", "after the return"])
     assert gap <= lost
 
 
