@@ -1,24 +1,20 @@
-"""What tests in Chromium share: a browser for each worker, its windows, and a server behind a relay and nginx."""
+"""What tests in Chromium share: a browser for each worker, its windows, and a server, also behind nginx."""
 from __future__ import annotations
 
 import contextlib
+import os
 import pathlib
+import signal
 from typing import Callable, Iterator
 
 import pytest
 
+from base import reserved_port
 from browser import Browser, Window, browsing
 from daemon import Connection, HANDSHAKE
 from pages import Chat
-from relay import Relay
 
 WINDOWS = pytest.StashKey[list]()
-# A blank page that has the client as a script, in front of the location of all pages.
-BLANK = """location = /blank {
-    default_type text/html;
-    return 200 '<!DOCTYPE html><link rel="icon" href="data:,"><script src="/client/bayeux.js"></script>';
-}
-location / {"""
 
 
 def pytest_collection_modifyitems(items: list[pytest.Item]) -> None:
@@ -50,22 +46,29 @@ def browser() -> Iterator[Browser]:
 
 
 class Server:
-    """A bayeuxd behind a relay. After a restart, the relay's port is the same."""
+    """A bayeuxd at `port`, also after a restart."""
 
-    def __init__(self, start_daemon: Callable) -> None:
-        self.relay = Relay()
-        self.start_daemon = start_daemon
+    def __init__(self, start_daemon: Callable, port: int) -> None:
+        self.start_daemon, self.port = start_daemon, port
+        self.address = f"http://127.0.0.1:{port}/cometd"
         self.start()
 
     def start(self, *flags: str) -> None:
-        self.daemon = self.start_daemon(*flags)
-        self.relay.target = self.daemon.address
+        self.daemon = self.start_daemon("--listen", f"127.0.0.1:{self.port}", *flags)
 
     def restart(self, *flags: str) -> None:
-        """Kills the daemon, and all connections to it, and starts another one."""
+        """Kills the daemon, and so all connections to it, and starts another one."""
         self.daemon.kill()
-        self.relay.cut()
         self.start(*flags)
+
+    @contextlib.contextmanager
+    def pausing(self) -> Iterator[None]:
+        """Lets the daemon do nothing until the block ends."""
+        os.kill(self.daemon.process.pid, signal.SIGSTOP)
+        try:
+            yield
+        finally:
+            os.kill(self.daemon.process.pid, signal.SIGCONT)
 
     def ask(self, *messages: dict) -> list[dict]:
         """Posts `messages`, and returns the items of the response."""
@@ -87,9 +90,8 @@ class Server:
 @pytest.fixture
 def server(browser: Browser, daemon: Callable) -> Iterator[Server]:
     """A running `Server`."""
-    server = Server(daemon)
-    yield server
-    server.relay.close()
+    with reserved_port() as port:
+        yield Server(daemon, port)
 
 
 @pytest.fixture
@@ -115,13 +117,6 @@ def windows(browser: Browser, request: pytest.FixtureRequest) -> Iterator[Callab
 def window(browser: Browser, windows: Callable) -> Callable[..., Window]:
     """Opens windows: `window(address)`. They are closed after the test."""
     return lambda *arguments: windows(Window(browser, *arguments))
-
-
-@pytest.fixture
-def blank(server: Server, nginx: Callable, window: Callable) -> Callable[[], Window]:
-    """Opens windows of a blank page: `blank()`. With HTTP/1.1, Chromium has six connections to nginx, which passes them to `server`."""
-    address = nginx(server.relay.port, {" http2": "", "location / {": BLANK})
-    return lambda: window(f"{address}/blank")
 
 
 @pytest.fixture

@@ -1,12 +1,14 @@
-"""The chat in two windows: messages, connections that break, and users who leave. From disk, and behind nginx."""
+"""The chat in two windows: messages, and users who leave. From disk, and behind nginx."""
 from __future__ import annotations
 
 import pytest
 
 from base import TOP, wait_until
+from metrics import CONNECTS_HELD
 from pages import talk
 
-CHANNEL = "/chat/hall"
+# Keeps the client of a page from noticing that it closes, as if its process had failed.
+IGNORE_CLOSE = "window.addEventListener('pagehide', (it) => it.stopImmediatePropagation(), true)"
 
 
 @pytest.fixture(params=["callback-polling", "long-polling"])
@@ -19,9 +21,9 @@ def transport(request):
 def ann_and_ben(transport, server, request, chat):
     """Two windows of the chat."""
     if transport == "callback-polling":
-        address = f"file://{TOP}/examples/chat/index.html?server={server.relay.address}"
+        address = f"file://{TOP}/examples/chat/index.html?server={server.address}"
     else:
-        address = f"{request.getfixturevalue('nginx')(server.relay.port)}/chat/"
+        address = f"{request.getfixturevalue('nginx')(server.port)}/chat/"
     return chat(address, "Ann"), chat(address, "Ben")
 
 
@@ -31,28 +33,6 @@ def test_two_windows_show_each_message(transport, ann_and_ben, picture):
     talk(ann, ben)
     picture(ann, "chat")
     assert [len(it.texts("#messages li.own")) for it in (ann, ben)] == [2, 1]
-
-
-def test_no_message_is_lost_or_repeated_if_connections_break(server, ann_and_ben):
-    """First connections are cut. Then each session loses a response."""
-    sent = [f"Sent while the line was broken: {number}" for number in range(1, 4)]
-    server.relay.cut()
-    for it in ann_and_ben:
-        it.wait_state("interrupted")
-    server.publish(CHANNEL, *({"name": "Cleo", "text": text} for text in sent))
-    server.relay.target = server.daemon.address
-    for it in ann_and_ben:
-        it.wait_state("connected")
-        it.wait_messages(sent)
-    sessions = len({it.run("return client.clientId") for it in ann_and_ben})
-    server.relay.loses_responses = True
-    sent.append("In a response that was lost, and came again")
-    server.publish(CHANNEL, {"name": "Cleo", "text": sent[-1]})
-    wait_until("each session has lost a response", lambda: server.relay.lost >= sessions)
-    server.relay.loses_responses = False
-    server.publish(CHANNEL, {"name": "Cleo", "text": "The last one"})
-    for it in ann_and_ben:
-        it.wait_messages([*sent, "The last one"])
 
 
 def test_the_others_see_who_leaves_and_the_session_ends_at_once(server, ann_and_ben):
@@ -67,3 +47,20 @@ def test_the_others_see_who_leaves_and_the_session_ends_at_once(server, ann_and_
     assert server.has_session(ids[1])
     ben.driver.get("about:blank")
     wait_until("the session of Ben has ended", lambda: not server.has_session(ids[1]))
+
+
+def test_windows_share_one_session_and_another_one_continues_with_it(server, nginx, chat):
+    """Eight clients are more than the six connections that a browser opens with HTTP/1.1. It ends the lock of a window that closes."""
+    address = f"{nginx(server.port, {' http2': ''})}/chat/"
+    ann, ben = chat(address, "Ann"), chat(address, "Ben")
+    session = ann.run("return client.clientId")
+    for it in (ann, ben):
+        it.run("return Promise.all([1, 2, 3].map(() => new BayeuxClient('/cometd').start()))")
+        assert it.run("return client.clientId") == session
+    server.daemon.expect({CONNECTS_HELD: 1})
+    talk(ann, ben)
+    ann.run(IGNORE_CLOSE)
+    ann.driver.get("about:blank")
+    ben.send("After the close")
+    wait_until("the message is shown", lambda: ben.messages()[3:] == ["After the close"])
+    assert (ben.run("return client.clientId"), "may be missing" in ben.text(".notice")) == (session, False)

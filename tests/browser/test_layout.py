@@ -28,14 +28,14 @@ WORDS = "A color for each name, and a word that is long: " + "x" * 60
 @pytest.fixture
 def disk(server):
     """Returns the address of a page on disk: `disk(path)`, from examples/ on."""
-    return lambda path: f"file://{TOP}/examples/{path}?server={server.relay.address}"
+    return lambda path: f"file://{TOP}/examples/{path}?server={server.address}"
 
 
 def test_chat_is_readable(server, disk, chat):
     page = chat(disk("chat/index.html"), "Ann")
     server.publish("/chat/hall", *({"name": f"Name {31 * number}", "text": WORDS} for number in range(12)))
     wait_until("all messages are shown", lambda: len(page.messages()) == 12)
-    server.relay.cut()
+    server.daemon.kill()
     page.wait_state("interrupted")
     page.send("Not sent")
     wait_until("the page says that it was not sent", lambda: page.texts("#problem:not([hidden])"))

@@ -21,7 +21,7 @@ def test_pages_of_the_documents_get_events(server, nginx, window, tmp_path):
         for kind in ("html", "js"):
             block = re.search(rf"^#+ {title}\n.*?^```{kind}\n(.*?)^```$", read(page), re.M | re.S)
             (folder / f"{name}.{kind}").write_text(block[1], encoding="utf-8")
-    address = nginx(server.relay.port, {"/var/www/bayeux": str(folder)})
+    address = nginx(server.port, {"/var/www/bayeux": str(folder)})
     hello, page = window(f"{address}/hello.html"), window(f"{address}/page.html")
     wait_until("the page of README is connected", lambda: "connected" in hello.text("#log").split())
     hello.click("#hello")

@@ -8,15 +8,21 @@ import pytest
 from base import wait_until
 from browser import Window
 from metrics import CONNECTS_HELD
-from pages import Client
+
+# Records the data of events, and the moment of each gap in milliseconds.
+RECORD = """
+Object.assign(window, { seen: [], moments: [] });
+client.addEventListener('gap', ({ since }) => moments.push(since.getTime()));
+return client.subscribe('/a', (data) => seen.push(data));
+"""
 
 
-def test_frozen_page_reports_a_gap_since_before_the_first_lost_event(server, blank, tmp_path):
+def test_frozen_page_reports_a_gap_since_before_the_first_lost_event(server, nginx, window, tmp_path):
     """A response that arrives while the page is frozen does not hide that later events are lost."""
-    log = tmp_path / f"nginx-{server.relay.port}/var/log/nginx/access.log"
-    page = blank()
-    client = Client(page, "/a", share=False)
-    client.wait_state("connected")
+    log = tmp_path / f"nginx-{server.port}/var/log/nginx/access.log"
+    page = window(f"{nginx(server.port)}/dashboard/")
+    page.wait_state("connected")
+    page.run(RECORD)
     server.daemon.expect({CONNECTS_HELD: 1})
     answered = log.read_text()
     # As a phone does while it is locked.
@@ -29,22 +35,20 @@ def test_frozen_page_reports_a_gap_since_before_the_first_lost_event(server, bla
     server.publish("/a", "lost")
     page.command("Page.setWebLifecycleState", state="active")
     page.show()
-    wait_until("the client reports a gap", lambda: client.gaps)
-    client.wait_state("connected")
+    [gap] = wait_until("the client reports a gap", lambda: page.run("return moments"))
+    page.wait_state("connected")
     server.publish("/a", "after the return")
-    client.wait_event("after the return")
-    assert client.events == ["arrives at the frozen page", "after the return"]
-    [gap] = client.gaps
+    wait_until("the next event comes", lambda: page.run("return seen") == ["arrives at the frozen page", "after the return"])
     assert gap <= lost
 
 
 def leave_and_return(server, page: Window, address: str) -> None:
     """Goes to another page of the same site, and presses Back. The browser must have kept the page.
 
-    Chromium drops a page that gets a response meanwhile, so the relay keeps the responses.
+    Chromium drops a page that gets a response meanwhile, so there is none.
     """
     page.run("window.isKept = true")
-    with server.relay.holding():
+    with server.pausing():
         page.driver.get(f"{address}/common/page.css")
         page.driver.back()
     assert page.run("return window.isKept"), "the browser has not kept the page"
@@ -52,7 +56,7 @@ def leave_and_return(server, page: Window, address: str) -> None:
 
 @pytest.mark.parametrize("changes", [{}, {" http2": ""}], ids=["HTTP/2", "HTTP/1.1"])
 def test_chat_continues_after_back(server, nginx, chat, changes):
-    address = nginx(server.relay.port, changes)
+    address = nginx(server.port, changes)
     ann, ben = chat(f"{address}/chat/", "Ann"), chat(f"{address}/chat/", "Ben")
     leave_and_return(server, ann, address)
     ann.wait_state("connected")

@@ -1,18 +1,17 @@
 """The recipes of the pages, with their own text, on loopback. Blocks in languages that are not installed are left out."""
 import concurrent.futures
-import http.server
 import json
 import re
 import subprocess
-import threading
 import urllib.parse
-from collections.abc import Callable, Iterator
 from pathlib import Path
 
 import pytest
 from base import section, wait_until
 from metrics import CONNECTS_HELD
 from nginx import Nginx, adapt
+
+from gadzilk_client import Client
 
 # The page of each recipe that is on another page than RECIPES.
 PAGES = {"Upgrade": "docs/OPERATING.md", "Several machines": "docs/OPERATING.md"}
@@ -94,35 +93,19 @@ def test_visitors_read_and_members_publish(server, recipe, need, folder: Path) -
     nginx.expect_kept_connection(found, "/cometd/members", **RIGHT)
 
 
-@pytest.fixture
-def application() -> Iterator[tuple[str, set[str]]]:
-    """The address of an application, and the cookies and tokens of its users who are signed in."""
-    signed_in = {"session=right", "Bearer right"}
-
-    class Application(http.server.BaseHTTPRequestHandler):
-        def do_GET(self) -> None:
-            is_signed_in = {self.headers.get("Cookie"), self.headers.get("Authorization")} & signed_in
-            self.send_response(204 if self.path == "/who" and is_signed_in else 401)
-            self.end_headers()
-
-        def log_message(self, *_) -> None:
-            pass
-
-    with http.server.ThreadingHTTPServer(("127.0.0.1", 0), Application) as it:
-        threading.Thread(target=it.serve_forever, daemon=True).start()
-        yield f"127.0.0.1:{it.server_address[1]}", signed_in
-        it.shutdown()
-
-
-def test_users_of_an_application_are_served_while_they_are_signed_in(server, recipe, application) -> None:
-    address, signed_in = application
-    nginx = recipe(block("Users of your application"), server(), {"127.0.0.1:8000": address})
+def test_users_of_an_application_are_served_while_they_are_signed_in(server, recipe) -> None:
+    """A file for each cookie or token stands for a user who is signed in."""
+    application = recipe('location = /who { if (!-f "$document_root/$http_cookie$http_authorization") { return 401; } return 204; }')
+    signed_in = [application.folder / "var/www" / it for it in ("session=right", "Bearer right")]
+    for it in signed_in:
+        it.touch()
+    nginx = recipe(block("Users of your application"), server(), {"127.0.0.1:8000": text_of(application.place)})
     for args in ([], ["/members/index.html", "GET"]):
         fields: list[dict] = [{}, {"Cookie": "session=wrong"}, {"Cookie": "session=right"}, {"Authorization": "Bearer right"}]
         assert [nginx.status(*args, **it) for it in fields] == [401, 401, 200, 200]
     assert nginx.status("/index.html", "GET") == 200
     assert nginx.status("/signed-in", "GET", Cookie="session=right") == 404
-    signed_in.clear()
+    signed_in[0].unlink()
     assert nginx.status(Cookie="session=right") == 401
 
 
@@ -157,44 +140,30 @@ def test_curl_lines_of_the_readme_get_an_event(server, need) -> None:
         assert [it.get("data") for it in json.loads(shell.stdout.readline())] == ["Hello", None]
 
 
-def listen(nginx: Nginx, is_over: Callable[[], bool], events: list[str], errors: list[str]) -> None:
-    """Listens through nginx in a session, and after an error in a new one. Keeps the events and errors. Each response has status 200."""
-    client = ""
-    while not is_over():
-        if not client:
-            client = nginx.handshake()
-            nginx.send(channel="/meta/subscribe", subscription="/a", clientId=client)
-        *items, reply = nginx.send(**CONNECT, clientId=client)
-        events += [it["data"] for it in items]
-        if "error" in reply:
-            errors.append(reply["error"])
-            client = ""
-
-
-def test_upgrade_changes_the_server_while_a_client_listens(daemon, recipe) -> None:
+def test_upgrade_changes_the_server_while_a_client_listens(daemon, recipe, caplog) -> None:
     first, second = daemon("--timeout=2s", "--anonymous"), daemon("--timeout=2s", "--anonymous")
-    nginx, end = recipe(block(FOR_ALL), first), threading.Event()
+    nginx = recipe(block(FOR_ALL), first)
     events: list[str] = []
-    errors: list[str] = []
+
+    def listen() -> None:
+        for it in client.listen("/a"):
+            events.append(it.data)
 
     def publish(data: str) -> bool:
         nginx.send(channel="/a", data=data)
         return data in events or listening.done()
 
-    with concurrent.futures.ThreadPoolExecutor() as pool:
-        listening = pool.submit(listen, nginx, end.is_set, events, errors)
-        try:
-            wait_until("the client gets events of the first", lambda: publish("first"))
-            changes = {"127\\.0\\.0\\.1:8087": text_of(first.address), "127.0.0.1:8088": text_of(second.address)}
-            command = adapt(block("Upgrade", "sh", 1), nginx.folder, changes).replace("nginx -s", f"{' '.join(nginx.args)} -s")
-            subprocess.run(["bash", "-ec", command], check=True)
-            wait_until("the first server has answered, and the client comes to the second", lambda: errors or listening.done())
-            first.close()
-            wait_until("the client gets events of the second", lambda: publish("second"))
-        finally:
-            end.set()
-        listening.result()
-    assert errors == ["402::Unknown client"]
+    with concurrent.futures.ThreadPoolExecutor() as pool, Client(f"{nginx.address}/cometd") as client:
+        listening = pool.submit(listen)
+        wait_until("the client gets events of the first", lambda: publish("first"))
+        changes = {"127\\.0\\.0\\.1:8087": text_of(first.address), "127.0.0.1:8088": text_of(second.address)}
+        command = adapt(block("Upgrade", "sh", 1), nginx.folder, changes).replace("nginx -s", f"{' '.join(nginx.args)} -s")
+        subprocess.run(["bash", "-ec", command], check=True)
+        wait_until("the first server has answered, and the client comes to the second", lambda: caplog.records or listening.done())
+        first.close()
+        wait_until("the client gets events of the second", lambda: publish("second"))
+    listening.result()
+    assert [str(failure) for _, failure in (it.args for it in caplog.records)] == ["402::Unknown client"]
 
 
 def test_paths_lead_to_several_machines(server, recipe, folder: Path) -> None:

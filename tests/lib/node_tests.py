@@ -31,7 +31,8 @@ class NodeTest(pytest.Item):
             pytest.skip("there is no node")
         pattern = re.sub(r"[^\w ]", r"\\\g<0>", self.name)
         args = ["node", "--test-reporter=tap", f"--test-name-pattern=^{pattern}$", self.path]
-        env = {**os.environ}
+        # Debian's packages, if node is another one.
+        env = {**os.environ, "NODE_PATH": f"{os.environ.get('NODE_PATH', '')}:/usr/share/nodejs"}
         if "process.env.BAYEUXD" in self.parent.text:
             env["BAYEUXD"] = os.path.abspath(self.parent.find_program())
         result = subprocess.run(args, cwd=self.config.rootpath, env=env, capture_output=True, text=True, check=False)

@@ -1,19 +1,8 @@
-"""What tests do with the chat, and with clients on a blank page."""
+"""What tests do with the chat."""
 from __future__ import annotations
-
-from typing import Any
 
 from base import wait_until
 from browser import ENTER, Browser, Window
-
-# Starts a client that records the data of its events, and the moment of each gap in milliseconds. `arguments`: patterns and options.
-NEW_CLIENT = """
-const [patterns, options] = arguments, client = new BayeuxClient('/cometd', options), seen = [], gaps = [];
-client.addEventListener('gap', ({ since }) => gaps.push(since.getTime()));
-for (const pattern of patterns) client.subscribe(pattern, (data) => seen.push(data));
-client.start();
-return (window.clients ||= []).push(Object.assign(client, { seen, gaps })) - 1;
-"""
 
 
 class Chat(Window):
@@ -49,35 +38,3 @@ def talk(ann: Chat, ben: Chat) -> None:
         writer.send(texts[count - 1])
         for chat in (ann, ben):
             chat.wait_messages(texts[:count])
-
-
-class Client:
-    """A client in a window of a blank page. `options`: those of `BayeuxClient`."""
-
-    def __init__(self, window: Window, *patterns: str, **options: object) -> None:
-        self.window = window
-        self.index = window.run(NEW_CLIENT, patterns, options)
-
-    def run(self, expression: str, *arguments: object) -> Any:
-        """Returns the value of `expression`, a member of the client or a call, which may have `arguments`."""
-        return self.window.run(f"return clients[{self.index}].{expression}", *arguments)
-
-    @property
-    def events(self) -> list:
-        """The data of all events so far."""
-        return self.run("seen")
-
-    @property
-    def gaps(self) -> list[int]:
-        """The moment of each gap, in milliseconds."""
-        return self.run("gaps")
-
-    def wait_state(self, state: str) -> None:
-        wait_until(f"the client is {state}", lambda: self.run("state") == state)
-
-    def wait_event(self, event: object) -> None:
-        wait_until(f"the event {event!r}", lambda: event in self.events)
-
-    def publish(self, channel: str, data: object) -> str:
-        """Returns "published", or the message of the error."""
-        return self.run("publish(...arguments).then(() => 'published', ({ message }) => message)", channel, data)

@@ -53,22 +53,15 @@ scenario('wrong arguments throw at once, and neither send nor change anything', 
     ['data', 'a value that JSON can express', (value) => it.stop([{ channel: '/a', data: 0 }, { channel: '/a', data: value }]), (value) => value !== undefined && value !== cycle],
     ['last', 'an array of messages', (value) => it.stop(value), (value) => value === undefined || Array.isArray(value)],
   ];
-  const errorOf = (call, value) => {
-    try {
-      call(value);
-      return 'no error';
-    } catch ({ name, message }) {
-      return `${name}: ${message}`;
-    }
-  };
+  const expectError = (call, message) => assert.throws(call, { name: 'TypeError', message }, message);
   const before = server.requests.length;
   for (const [name, expected, call, isRight, others = []] of rows) {
     for (const [value, given] of [...kinds.filter(([value]) => !isRight(value)), ...others]) {
-      assert.equal(errorOf(call, value), `TypeError: ${name}: expected ${expected}, got ${given}`);
+      expectError(() => call(value), `${name}: expected ${expected}, got ${given}`);
     }
   }
   for (const [name, options] of [['header', { header: {} }], ['0', ['share']], ['b', { share: true, b: undefined, c: 1 }]]) {
-    assert.equal(errorOf((value) => new Client('/cometd', value), options), `TypeError: options.${name}: unknown, expected one of connectionType, headers, ext, share, name, timeout, maxNetworkDelay, minPause, maxPause, queue`);
+    expectError(() => new Client('/cometd', options), `options.${name}: unknown, expected one of connectionType, headers, ext, share, name, timeout, maxNetworkDelay, minPause, maxPause, queue`);
   }
   for (const options of [{}, { headers: { a: 'b', c: '' }, share: false, name: '' }]) new Client('/cometd', options);
   assert.deepEqual([server.requests.length, it.log, it.state, [...it.listeners.keys()]], [before, ['connecting', 'connected'], 'connected', ['/a']]);

@@ -1,15 +1,13 @@
 // The chat without a browser.
 import assert from 'node:assert/strict';
-import test from 'node:test';
-import { HOSTILE, Page } from './page_place.mjs';
+import { define, HOSTILE, Page, test } from './page_place.mjs';
 
-const SUBMIT = { cancelable: true };
 const nextTurn = () => new Promise((go) => setTimeout(go));
 const timeOf = (milliseconds) => new Date(milliseconds).toLocaleTimeString([], { hour: '2-digit', minute: '2-digit' });
 
 /** Returns a chat in which the user `name` has joined. */
 function join(name) {
-  const page = new Page('https://site.example/chat/', 'chat/index.html');
+  const page = Page.open('https://site.example/chat/', 'chat/index.html');
   page.element('name').value = name;
   submit(page, 'join');
   return page;
@@ -17,26 +15,29 @@ function join(name) {
 
 /** Sends a form as the browser does, which must not load the page again. */
 function submit(page, form) {
-  const event = new Event('submit', SUBMIT);
-  page.element(form).dispatchEvent(event);
-  assert.ok(event.defaultPrevented, `the form ${form} loads the page again`);
+  assert.ok(page.dispatch(page.element(form), 'submit'), `the form ${form} loads the page again`);
 }
 
-/** Returns what is shown of a chat, the text in its field, its problem, and its list. */
+/** Returns what is shown of a chat, the text in its field, its problem, and the class and the texts of each item of its list. */
 function chatOf(page) {
   const parts = ['join', 'messages', 'write', 'problem'].filter((it) => !page.element(it).hidden).join(' ');
-  return [parts, page.element('text').value, page.element('problem').textContent, page.element('messages').children.map((it) => it.outline())];
+  const items = [...page.element('messages').children].map((it) => [it.className, ...[...it.childNodes].map(({ textContent }) => textContent)]);
+  return [parts, page.element('text').value, page.element('problem').textContent, items];
 }
 
 test('joining', () => {
   for (const blank of ['', '   ']) {
-    const page = join(blank);
-    const { calls, value } = page.element('name');
-    assert.deepEqual([chatOf(page), calls, value, page.client.isStarted, page.client.listeners.size], [['join', '', '', []], ['reportValidity'], '', false, 0]);
+    const page = join('');
+    const name = page.element('name');
+    let reports = 0;
+    name.addEventListener('invalid', () => reports++);
+    name.value = blank;
+    submit(page, 'join');
+    assert.deepEqual([chatOf(page), reports, name.value, page.client.isStarted, page.client.listeners.size], [['join', '', '', []], 1, '', false, 0]);
   }
   const page = join(` ${HOSTILE} `);
   const { client, publishes } = page;
-  assert.deepEqual([chatOf(page), page.element('text').calls], [['messages write', '', '', []], ['focus']]);
+  assert.deepEqual([chatOf(page), page.document.activeElement.id], [['messages write', '', '', []], 'text']);
   assert.deepEqual([client.isStarted, [...client.listeners.keys()], page.state(), publishes], [true, ['/chat/hall', '/chat/hall/presence'], ['not connected', ''], []]);
   // One joins once, and again after one has left, for example to another page.
   const joins = ['/chat/hall', { name: HOSTILE, joined: true }];
@@ -56,15 +57,14 @@ test('messages, their authors and times', async () => {
   assert.deepEqual(chatOf(page)[3], [], 'what has another form is not shown');
   for (const data of [{ joined: true }, { left: true }, { text: HOSTILE }]) listener({ name: HOSTILE, ...data });
   page.client.ongap(new Date(page.now - 3600000));
-  const notices = [`${HOSTILE} joined`, `${HOSTILE} left`, `Messages since ${timeOf(page.now - 3600000)} may be missing`].map((it) => `li.notice${JSON.stringify(it)}`);
-  const quoted = JSON.stringify(HOSTILE);
-  notices.splice(2, 0, `li.other(b${quoted} p${quoted} time"${timeOf(page.now)}")`);
+  const notices = [`${HOSTILE} joined`, `${HOSTILE} left`, `Messages since ${timeOf(page.now - 3600000)} may be missing`].map((it) => ['notice', it]);
+  notices.splice(2, 0, ['other', HOSTILE, HOSTILE, timeOf(page.now)]);
   assert.deepEqual(chatOf(page), ['messages write', '', '', notices]);
   // A name has the same colour in each window, and others have other colours, also those of the same letters.
   const names = ['Ann', 'Cleo', 'Oelc', 'Ken', 'Ümit \u{1f600}', 'Annabella Jones', 'Annabella Jonas', 'Onnabella Jones'];
   const [hues, others] = [page, join('Dan')].map((it) => names.map((name) => {
     it.client.listeners.get('/chat/hall')({ name, text: 'x' });
-    return it.element('messages').lastChild.attributes['--hue'];
+    return it.element('messages').lastChild.style.getPropertyValue('--hue');
   }));
   assert.deepEqual([hues, new Set(hues).size, hues.filter((it) => !(it >= 0 && it < 360))], [others, names.length, []]);
 });
@@ -104,7 +104,7 @@ test('a message that may not have been sent returns to the field', async () => {
   assert.deepEqual(shown(), [unsure, 'Twice Third Fourth  Once more ']);
   listener(late);
   assert.deepEqual(shown(), ['', 'Third Fourth  Once more ']);
-  assert.deepEqual([channel, Object.keys(late), late.name, chatOf(page)[3].map((it) => it.split('(')[0])], ['/chat/hall', ['name', 'text', 'mark', 'number'], 'Ann', ['li.own', 'li.own', 'li.other', 'li.own', 'li.own']]);
+  assert.deepEqual([channel, Object.keys(late), late.name, chatOf(page)[3].map(([kind]) => kind)], ['/chat/hall', ['name', 'text', 'mark', 'number'], 'Ann', ['own', 'own', 'other', 'own', 'own']]);
   // A message that arrives before its failure does not return.
   write('Fifth');
   listener(page.publishes[2][1]);
@@ -149,7 +149,7 @@ test('who is online, and who writes', () => {
   for (const data of [null, 5, 'x', {}, { id: 'x' }, { id: 5, name: 'x' }, { id: 'x', name: {} }]) listener(data);
   assert.equal(shown()[0], `Online: ${HOSTILE}, Ann, Cleo`, 'what has another form is not shown');
   // One's own writing is not shown to oneself, and it is published once a second at most.
-  for (const _ of [1, 2]) page.element('text').dispatchEvent(new Event('input'));
+  for (const _ of [1, 2]) page.dispatch(page.element('text'), 'input');
   assert.deepEqual(beats(), [['/chat/hall/presence', 'Ann', { ...plain, writes: true }]]);
   listener({ ...own, writes: true });
   assert.equal(shown()[1], '');
@@ -167,9 +167,9 @@ test('who is online, and who writes', () => {
   listener(own);
   page.wait(10);
   assert.deepEqual(shown()[0], 'Online: Ann, Hidden');
-  page.run('document').hidden = true;
+  define(page.document, { hidden: true });
   page.beats.splice(0);
-  page.run('document').dispatchEvent(new Event('visibilitychange'));
+  page.dispatch(page.document, 'visibilitychange');
   page.wait(58);
   assert.deepEqual([shown()[0], beats()], ['', [['/chat/hall/presence', 'Ann', { ...plain, seconds: 60 }]]]);
   // The list is bounded, and so is a name.
@@ -197,7 +197,7 @@ test('the list shows what the user sends', () => {
       const page = join('Ann');
       const mark = isOwn ? page.run('OWN_MARK') : 'another';
       const list = page.element('messages');
-      Object.assign(list, { scrollHeight: 1000, clientHeight: 100, scrollTop: top });
+      define(list, { scrollHeight: 1000, clientHeight: 100, scrollTop: top });
       page.client.listeners.get('/chat/hall')({ name: 'Ann', mark, number: 1, ...data });
       assert.deepEqual([list.children.length, list.scrollTop], [1, wanted], `${JSON.stringify(data)} at ${top}, own: ${isOwn}`);
     }

@@ -1,25 +1,24 @@
 // The dashboard and the page of metrics without a browser.
 import assert from 'node:assert/strict';
-import test from 'node:test';
-import { HOSTILE, Page, SITE } from './page_place.mjs';
+import { define, HOSTILE, Page, SITE, test } from './page_place.mjs';
 
 const text = (root, part) => root.querySelector(part).textContent;
+const attributes = (root, part, ...names) => names.map((it) => root.querySelector(part).getAttribute(it));
 
 /** Returns a dashboard whose charts show `seconds`, what publishes a number to a channel below /dashboard/, and its cards. */
 function dashboard(seconds = 60) {
-  const page = new Page(`${SITE}?seconds=${seconds}`, 'dashboard/index.html');
+  const page = Page.open(`${SITE}?seconds=${seconds}`, 'dashboard/index.html');
   const [[pattern, listener]] = page.client.listeners;
   assert.equal(pattern, '/dashboard/*');
-  return { page, publish: (value, name = 'x') => listener(value, `/dashboard/${name}`), cards: () => page.element('cards').children };
+  return { page, publish: (value, name = 'x') => listener(value, `/dashboard/${name}`), cards: () => [...page.document.querySelectorAll('.card')] };
 }
 
 /** Returns all that a card shows, except its grid. */
 function cardOf(root) {
-  const part = (selector) => root.querySelector(selector);
   const texts = ['h2', '.value', '.age', '.min', '.average', '.max', '.start'].map((it) => text(root, it));
-  const { attributes: newest } = part('.newest');
-  const picture = [part('svg').attributes.viewBox, part('.end').attributes.x, newest.visibility, newest.cx, newest.cy, part('.curve').attributes.d, part('.area').attributes.d];
-  return [texts.join(), part('svg').attributes['aria-label'], root.classes.has('old'), picture.join(' ')];
+  const [[size, label], newest] = [attributes(root, 'svg', 'viewBox', 'aria-label'), attributes(root, '.newest', 'visibility', 'cx', 'cy')];
+  const picture = [size, ...attributes(root, '.end', 'x'), ...newest, ...attributes(root, '.curve', 'd'), ...attributes(root, '.area', 'd')];
+  return [texts.join(), label, root.classList.contains('old'), picture.join(' ')];
 }
 
 // All that a card shows of 10 at once and 20 after ten seconds, in a chart of 20 seconds: from x = 50 to 8 before the right edge, and
@@ -29,7 +28,7 @@ test('all that a card shows', () => {
     const { page, publish, cards } = dashboard(20);
     publish(10, 'a/x-y-z');
     const [root] = cards();
-    root.querySelector('svg').clientWidth = width;
+    define(root.querySelector('svg'), { clientWidth: width });
     page.wait(0);
     const size = `0 0 ${Math.max(width, 200)} 166 ${right}`;
     const edge = `${right}.0`;
@@ -57,14 +56,14 @@ test('cards are for numbers, sorted by their channels, and a name is text', () =
 
 // A number is old after three times the usual pause between two numbers, and after three seconds. The curve then has a gap.
 test('old numbers, and gaps in the curve', () => {
-  const pieces = (root) => root.querySelector('.curve').attributes.d.split('M').length - 1;
+  const pieces = (root) => attributes(root, '.curve', 'd')[0].split('M').length - 1;
   // The seconds between numbers, those after which the last one is old, and how many pieces the curve has with the next one. Its
   // pause counts too.
   for (const [pauses, limit, count] of [[[], 3, 1], [[1, 1, 1], 3, 2], [[2, 10, 4], 12, 1], [[900, 900], 2700, 2]]) {
     const { page, publish, cards } = dashboard(7200);
     publish(5);
     const [root] = cards();
-    const state = () => [text(root, '.age'), root.classes.has('old')];
+    const state = () => [text(root, '.age'), root.classList.contains('old')];
     const wait = (seconds) => {
       page.now += 1000 * (seconds - 1);
       page.wait(1);
@@ -103,26 +102,25 @@ test('the axis encloses all values and 0', () => {
       page.wait(1);
     }
     const [card] = cards();
-    const grid = card.querySelector('.grid').children;
+    const lines = [...card.querySelectorAll('.grid line')].map((it) => ['x1', 'x2', 'y1', 'y2'].map((name) => Number(it.getAttribute(name))));
     const { low, high } = page.run('({ scaleOf })').scaleOf(values);
     const [least, greatest] = [Math.min(...values), Math.max(...values)];
     assert.ok(low <= Math.min(0, least) && high >= Math.max(0, greatest) && high > low && (least < 0 || low === 0), `${values}: from ${low} to ${high}`);
-    const lines = grid.filter((it) => !it.textContent).map(({ attributes }) => [attributes.x1, attributes.x2, attributes.y1, attributes.y2].map(Number));
     assert.deepEqual(lines.map(([x1, x2, y1, y2]) => [x1, x2, y1 - y2]), Array(5).fill([50, 592, 0]), `${values}`);
     assert.deepEqual([lines[0][2], lines[4][2]], [144, 10], `${values}`);
-    const labels = grid.filter((it) => it.textContent).map((it) => it.textContent);
+    const labels = [...card.querySelectorAll('.grid text')].map((it) => it.textContent);
     const wanted = [0, 1, 2, 3, 4].map((line) => low + ((high - low) * line) / 4);
     assert.deepEqual(labels, wanted.map((it) => it.toLocaleString('en', { notation: 'compact', maximumSignificantDigits: 3 })), `${values}`);
-    const heights = card.querySelector('.curve').attributes.d.match(/(?<=,)[\d.]+/g).map(Number);
+    const heights = attributes(card, '.curve', 'd')[0].match(/(?<=,)[\d.]+/g).map(Number);
     heights.forEach((y, at) => assert.ok(Math.abs(144 - (134 * (values[at] - low)) / (high - low) - y) < 0.1, `${values}: ${values[at]} is at ${y}`));
   }
 });
 
 // What is shown of metrics: a name, its meaning, and for each label a number and its change. Others than numbers are left out.
 test('the page of metrics', () => {
-  const page = new Page(SITE, 'dashboard/metrics.html');
+  const page = Page.open(SITE, 'dashboard/metrics.html');
   const listener = page.client.listeners.get('/metrics/all');
-  const age = () => [page.element('age').hidden, page.element('age').textContent, page.element('metrics').classes.has('old')];
+  const age = () => [page.element('age').hidden, page.element('age').textContent, page.element('metrics').classList.contains('old')];
   for (const data of [null, 5, 'text', {}, ...[null, 5, 'text'].map((metrics) => ({ metrics }))]) listener(data, '/metrics/all');
   page.wait(10);
   assert.deepEqual([page.element('metrics').children.length, page.element('empty').hidden, ...age(), page.client.isStarted], [0, false, true, 'Received 0 s ago.', false, true]);
@@ -132,13 +130,13 @@ test('the page of metrics', () => {
   const publish = (changed = {}, meanings = help) => {
     const zeros = Object.fromEntries([1, 0, -2, 0].map((value, at) => [`bayeux_z{a="${at}"}`, value]));
     const metrics = {
-      bayeux_sessions: 3, [named]: 10, 'bayeux_x_total{kind="c"}': 0, 'bayeux_lag_bucket{le="1"}': 4, bayeux_lag_count: 7, bayeux_zero: 0,
+      bayeux_sessions: 3, [named]: 10, 'bayeux_x_total{kind="c"}': 0, 'bayeux_lag_bucket{le="1"}': 4, bayeux_lag_count: 7, 'bayeux_<b>zero': 0,
       bayeux_text: '3', 'bayeux_y{a="1"}': 0, 'bayeux_y{a="2"}': 0, bayeux_a_total_count_b: 5, bayeux_own_sum: 6, ...zeros,
     };
     listener({ metrics: { ...metrics, bayeux_uptime_seconds_total: page.now / 1000, ...changed }, help: meanings }, '/metrics/all');
   };
-  const shown = () => page.element('metrics').children.map((root) => {
-    const [label, value, change] = [0, 1, 2].map((part) => root.querySelector('dl').children.filter((_, at) => at % 3 === part).map((it) => it.textContent));
+  const shown = () => [...page.element('metrics').children].map((root) => {
+    const [label, value, change] = ['dt', 'dd:not(.change)', '.change'].map((part) => [...root.querySelectorAll(part)].map((it) => it.textContent));
     return [...['h2', 'code', '.meaning'].map((it) => text(root, it)), label.map((it, at) => [it, value[at], change[at]].join(' ').trim()).join(', ')];
   });
   publish();
@@ -147,7 +145,7 @@ test('the page of metrics', () => {
     ['x (total)', 'bayeux_x_total', '', `${quoted},{b},c 10`],
     ['lag bucket', 'bayeux_lag_bucket', 'The lag.', '1 4'],
     ['lag count', 'bayeux_lag_count', 'The lag.', '7'],
-    ['zero', 'bayeux_zero', '', '0'],
+    ['<b>zero', 'bayeux_<b>zero', '', '0'],
     ['y', 'bayeux_y', '', 'each 0'],
     ['a total count b', 'bayeux_a_total_count_b', '', '5'],
     ['own sum', 'bayeux_own_sum', 'Its own.', '6'],

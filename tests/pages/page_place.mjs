@@ -1,6 +1,8 @@
-// Pages in node, with elements that only keep what they get, and a clock that stands still.
+// Pages in jsdom, whose clock stands still, and whose client sends nothing.
 import assert from 'node:assert/strict';
 import { readFileSync } from 'node:fs';
+import { createRequire } from 'node:module';
+import nodeTest from 'node:test';
 import vm from 'node:vm';
 
 const FOLDER = new URL('../../examples/', import.meta.url);
@@ -11,104 +13,25 @@ export const HOSTILE = '<img src=x onerror="alert(1)">&amp;';
 export const NO_ANSWER = 'no answer in time';
 export const read = (name) => readFileSync(new URL(name, FOLDER), 'utf8');
 
-/** Returns the paths of the scripts of the page `name`, whose text is `html`, from examples/ on. */
-export function scriptsOf(name, html) {
-  return [...html.matchAll(/<script src="([^"]+)">/g)].map(([, path]) => new URL(path, `file:///${name}`).pathname.slice(1));
+const { JSDOM } = (() => {
+  try {
+    return createRequire(import.meta.url)('jsdom');
+  } catch {
+    return {};
+  }
+})();
+
+/** Returns the paths of the scripts of the page `name`, from examples/ on. */
+function scriptsOf(name) {
+  return [...read(name).matchAll(/<script src="([^"]+)">/g)].map(([, path]) => new URL(path, `file:///${name}`).pathname.slice(1));
 }
 
-/** An element that keeps its attributes, text and children. `html`: the text within which `querySelector` finds parts. */
-class Element extends EventTarget {
-  constructor(tag = '', html = '') {
-    super();
-    Object.assign(this, { tag, html, textContent: '', className: '', value: '', title: '', hidden: false });
-    Object.assign(this, { clientWidth: 600, clientHeight: 100, scrollHeight: 0, scrollTop: 0 });
-    Object.assign(this, { attributes: {}, children: [], parts: new Map(), calls: [], classes: new Set() });
-    this.style = { setProperty: (name, value) => (this.attributes[name] = value) };
-    this.classList = { toggle: (name, isOn) => this.classes[isOn ? 'add' : 'delete'](name) };
-  }
+/** A test, which is skipped without jsdom. Another node than Debian's finds that of Debian if NODE_PATH is /usr/share/nodejs. */
+export const test = (name, check) => nodeTest(name, { skip: !JSDOM && 'there is no jsdom (package node-jsdom)' }, check);
 
-  get content() {
-    return { firstElementChild: this };
-  }
-
-  get lastChild() {
-    return this.children.at(-1);
-  }
-
-  cloneNode(isDeep) {
-    return new Element(this.tag, isDeep ? this.html : '');
-  }
-
-  querySelector(selector) {
-    const [, dot, name] = selector.match(/^(\.?)(\w+)$/);
-    if (!this.html.match(dot ? `class="([\\w ]* )?${name}[ "]` : `<${name}[ >]`)) return null;
-    if (!this.parts.has(selector)) this.parts.set(selector, new Element());
-    return this.parts.get(selector);
-  }
-
-  setAttribute(name, value) {
-    this.attributes[name] = String(value);
-  }
-
-  append(...items) {
-    this.children = [...this.children.filter((it) => !items.includes(it)), ...items];
-  }
-
-  replaceChildren(...items) {
-    this.children = items;
-  }
-
-  getBoundingClientRect() {
-    return { left: 100, width: 900 };
-  }
-
-  focus() {
-    this.calls.push('focus');
-  }
-
-  reportValidity() {
-    this.calls.push('reportValidity');
-  }
-
-  /** Returns the kind, the class, the text and the children, such as `li.own(p"Hello")`. */
-  outline() {
-    const children = this.children.map((it) => it.outline()).join(' ');
-    const [text, inner] = [this.textContent && JSON.stringify(this.textContent), children && `(${children})`];
-    return `${this.tag}${this.className && '.'}${this.className}${text}${inner}`;
-  }
-}
-
-/** The document `html`. Without `html`, it has an element for each id. */
-class Document extends Element {
-  constructor(html) {
-    super('', html);
-    this.body = new Element();
-    this.elements = new Map();
-    for (const [whole, tag, id, text] of html.matchAll(/<(\w+)[^>]*\bid="(\w+)"[^>]*>([^<]*)/g)) {
-      const { 1: inner = '' } = html.match(`<template id="${id}">([^]*?)</template>`) ?? [];
-      const { 1: className = '' } = whole.match(/ class="([^"]*)"/) ?? [];
-      const element = new Element(tag, inner);
-      this.elements.set(id, Object.assign(element, { textContent: text.trim(), className, hidden: / hidden>/.test(whole) }));
-    }
-  }
-
-  getElementById(id) {
-    if (!this.elements.has(id) && !this.html) this.elements.set(id, new Element());
-    return this.elements.get(id) ?? null;
-  }
-
-  createElement(tag) {
-    return new Element(tag);
-  }
-
-  createElementNS(space, tag) {
-    return new Element(`${space.split('/').at(-1)}:${tag}`);
-  }
-}
-
-/** A page with the document `html`, and a clock that stands still. `globals`: what its scripts find besides. */
+/** The page `html` at `address`, whose clock stands still. `globals`: what its scripts find besides, or in place of jsdom's. */
 export class StillPage {
-  constructor(html, globals) {
+  constructor(address, html, globals) {
     const page = this;
     class PageDate extends Date {
       static now = () => page.now;
@@ -118,17 +41,28 @@ export class StillPage {
       }
     }
     this.now = Date.UTC(2026, 0, 2, 12);
-    this.document = new Document(html);
-    this.context = vm.createContext({ Date: PageDate, document: this.document, ...globals });
+    this.dom = new JSDOM(html, { url: address, runScripts: 'outside-only', pretendToBeVisual: true });
+    this.window = Object.assign(this.dom.window, { Date: PageDate, URL, ...globals });
+    this.document = this.window.document;
   }
 
   run(script) {
-    return vm.runInContext(script, this.context);
+    return vm.runInContext(script, this.dom.getInternalVMContext());
   }
 
   element(id) {
     return this.document.getElementById(id);
   }
+
+  /** Dispatches an event to `target`, which bubbles and can be canceled. Returns whether it was canceled. */
+  dispatch(target, kind, members = {}) {
+    return !target.dispatchEvent(new this.window.MouseEvent(kind, { bubbles: true, cancelable: true, ...members }));
+  }
+}
+
+/** Gives an element, or all with this prototype, properties that jsdom has not or does not change, such as sizes. */
+export function define(element, properties) {
+  for (const [name, value] of Object.entries(properties)) Object.defineProperty(element, name, { value, writable: true, configurable: true });
 }
 
 /** Returns what the client says of a failure with the text `why`, or undefined if that is empty. */
@@ -179,22 +113,28 @@ class SilentClient extends EventTarget {
   }
 }
 
-/** A page with the elements and the scripts of the file `name`, or without a name with any element. */
+/** The page `html` at `address`, whose charts are 600 pixels wide. */
 export class Page extends StillPage {
-  constructor(address, name = '') {
+  constructor(address, html) {
     const ResizeObserver = class { observe() {} };
-    const setInterval = (go, milliseconds) => this.ticks.push([go, milliseconds]);
-    super(name && read(name), { URL, URLSearchParams, location: new URL(address), ResizeObserver, setInterval });
+    super(address, html, { ResizeObserver, setInterval: (go, milliseconds) => this.ticks.push([go, milliseconds]) });
     Object.assign(this, { ticks: [], publishes: [], beats: [] }); // beats: what it would publish of who is online
-    this.context.BayeuxClient = SilentClient.bind(null, this);
+    this.window.BayeuxClient = SilentClient.bind(null, this);
+    define(this.window.Element.prototype, { clientWidth: 600 });
     // The browser has another language than the page.
     this.run(`{
       const { toLocaleString } = Number.prototype;
       Number.prototype.toLocaleString = function (locale = 'de', options) { return toLocaleString.call(this, locale, options); };
     }`);
-    const scripts = scriptsOf(name, this.document.html);
-    assert.equal(scripts.shift(), name ? 'client/bayeux.js' : undefined);
-    for (const it of scripts) this.run(read(it));
+  }
+
+  /** Returns the page of the file `name`, after its scripts have run. */
+  static open(address, name) {
+    const page = new Page(address, read(name));
+    const [client, ...scripts] = scriptsOf(name);
+    assert.equal(client, 'client/bayeux.js');
+    for (const it of scripts) page.run(read(it));
+    return page;
   }
 
   /** Lets `seconds` pass, and what the page does each second. */

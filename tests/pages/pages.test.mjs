@@ -1,11 +1,6 @@
 // What the pages of examples have in common, and the scripts of documents, without a browser.
 import assert from 'node:assert/strict';
-import test from 'node:test';
-import { HOSTILE, NO_ANSWER, Page, PAGES, read, scriptsOf, SITE } from './page_place.mjs';
-
-// What runs a text as HTML or as a script.
-const SINKS = new RegExp('\\.(?:innerHTML|outerHTML|srcdoc|insertAdjacentHTML|setHTMLUnsafe|createContextualFragment|parseFromString)\\b'
-  + '|document\\.write|\\beval\\(|new Function\\(');
+import { HOSTILE, NO_ANSWER, Page, PAGES, read, SITE, test } from './page_place.mjs';
 
 /** Returns the code in `language` of a page of docs that has `text`. */
 function codeOf(page, language, text) {
@@ -28,7 +23,7 @@ test('the address of the server', () => {
     ...['ftp://127.0.0.1/', 'javascript:alert(1)', 'xhttp://127.0.0.1/', '/cometd', HOSTILE].map((it) => ['file:///index.html', it, local, false]),
     ...['ftp://127.0.0.1/', 'https://'].map((it) => [SITE, it, '/cometd', false]),
   ]) {
-    const page = new Page(`${address}?seconds=20${given === null ? '' : `&server=${encodeURIComponent(given)}`}`, 'dashboard/index.html');
+    const page = Page.open(`${address}?seconds=20${given === null ? '' : `&server=${encodeURIComponent(given)}`}`, 'dashboard/index.html');
     const [state, error] = page.state();
     assert.deepEqual([page.client.url, page.client.isStarted, state], [server, isRight, 'not connected'], `${address} ${given}`);
     assert.ok(isRight ? error === '' : error.startsWith(`“${given}” is not a server address.`), error);
@@ -52,7 +47,7 @@ test('what a page says of its connection', () => {
   ];
   for (const [why, state, words, isLasting = false] of rows) {
     for (const wasConnected of [false, true]) {
-      const page = new Page(`${SITE}?server=${encodeURIComponent(address)}`, 'dashboard/index.html');
+      const page = Page.open(`${SITE}?server=${encodeURIComponent(address)}`, 'dashboard/index.html');
       const look = () => ['className', 'title'].map((it) => page.element('state')[it]);
       const onstate = (...args) => page.client.onstate(...args);
       onstate('connecting', '');
@@ -76,7 +71,7 @@ test('what a page says of its connection', () => {
 });
 
 test('ages, numbers and failed publishes as texts', () => {
-  const { formatAge, formatNumber, publishErrorText } = new Page(SITE, 'chat/index.html').run('({ formatAge, formatNumber, publishErrorText })');
+  const { formatAge, formatNumber, publishErrorText } = Page.open(SITE, 'chat/index.html').run('({ formatAge, formatNumber, publishErrorText })');
   const ages = { 0: '0 s ago', 499: '0 s ago', 500: '1 s ago', 119499: '119 s ago', 119500: '2 min ago', 149499: '2 min ago', 149500: '3 min ago', 7200000: '120 min ago' };
   for (const [age, text] of Object.entries(ages)) assert.equal(formatAge(Number(age)), text);
   const numbers = [[0, '0'], [-0.126, '-0.13'], [1.004, '1'], [9.99, '9.99'], [-9.994, '-9.99'], [10, '10'], [10.06, '10.1'], [-12.34, '-12.3'], [-1234567.89, '-1,234,567.9'], [1e6, '1,000,000']];
@@ -97,27 +92,27 @@ test('ages, numbers and failed publishes as texts', () => {
 
 // The script of the tutorial draws the last sixty numbers, the newest at the right.
 test('the script of the tutorial', () => {
-  const page = new Page(SITE);
+  const page = new Page(SITE, codeOf('TUTORIAL.md', 'html', 'id="curve"'));
   page.run(codeOf('TUTORIAL.md', 'js', 'points.push'));
   const [[pattern, listener]] = page.client.listeners;
   assert.deepEqual([page.client.url, pattern, page.client.isStarted], ['/cometd', '/load/*', true]);
   page.client.onstate('interrupted', 'fetch failed');
   assert.equal(page.element('state').textContent, 'interrupted fetch failed');
-  const points = () => page.element('curve').attributes.points.split(' ').map((it) => it.split(',').map(Number));
+  const points = () => page.element('curve').getAttribute('points').split(' ').map((it) => it.split(',').map(Number));
   listener('text');
   listener(0.5);
   assert.deepEqual([page.element('value').textContent, points()], ['0.50', [[0, 75]]]);
   for (let number = 1; number <= 100; number++) listener(number);
   assert.equal(page.element('value').textContent, '100.00');
   assert.deepEqual(points(), Array.from({ length: 60 }, (_, at) => [10 * at, 145 - (140 * (41 + at)) / 100]));
-  for (const it of ['id="state" role="status"', 'id="value"', 'viewBox="0 0 600 150"', 'id="curve"']) assert.ok(codeOf('TUTORIAL.md', 'html', 'id="curve"').includes(it), it);
+  assert.equal(page.element('curve').closest('svg').getAttribute('viewBox'), '0 0 600 150');
 });
 
 // The example of the client's guide loads the state once it is connected and after a gap, and shows the newest one.
 test('the example that loads the state', async () => {
-  const page = new Page(SITE);
+  const page = new Page(SITE, '<p id="price"></p>');
   const states = [{ version: 1, price: 10 }, { version: 4, price: 13 }, { version: 4, price: 13 }];
-  Object.assign(page.context, { console, fetch: async (url) => ({ json: async () => url === '/price.json' && states.shift() }) });
+  Object.assign(page.window, { fetch: async (url) => ({ json: async () => url === '/price.json' && states.shift() }) });
   const prices = [];
   page.run(codeOf('CLIENT.md', 'js', 'client.ongap = '));
   const [[pattern, listener]] = page.client.listeners;
@@ -127,10 +122,10 @@ test('the example that loads the state', async () => {
     await new Promise((go) => setTimeout(go));
     prices.push(page.element('price').textContent);
   }
-  assert.deepEqual([prices, states.length], [[10, 12, 12, 13], 1]);
+  assert.deepEqual([prices, states.length], [['10', '12', '12', '13'], 1]);
 });
 
-// What a screen reader announces without being asked (WCAG 2, 4.1.3), and that no page runs a text as HTML or as a script.
+// What a screen reader announces without being asked (WCAG 2, 4.1.3), and that the Content-Security-Policy allows all of a page.
 test('the files of the pages', () => {
   for (const name of PAGES) {
     const text = read(name);
@@ -138,8 +133,5 @@ test('the files of the pages', () => {
     if (name.startsWith('chat/')) live.push('id="problem" role="alert"', 'aria-live="polite"');
     assert.deepEqual(live.filter((it) => !text.includes(it)), [], name);
     assert.deepEqual(text.match(/<script(?! src="[\w./-]+"><\/script>)|\son\w+=|javascript:|style=/g), null, `${name} has inline scripts or styles`);
-  }
-  for (const script of [...PAGES.flatMap((it) => scriptsOf(it, read(it))), '../crates/bx_metrics/src/status_page.rt']) {
-    assert.equal(read(script).match(SINKS), null, script);
   }
 });

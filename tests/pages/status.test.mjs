@@ -1,8 +1,7 @@
 // The script of the status page, with metrics of this file.
 import assert from 'node:assert/strict';
 import { readFileSync } from 'node:fs';
-import test from 'node:test';
-import { StillPage } from './page_place.mjs';
+import { define, StillPage, test } from './page_place.mjs';
 
 const read = (path) => readFileSync(new URL(path, import.meta.url), 'utf8');
 // Samples, what the charts show of them without and with the pointer at the second sample, metrics, the facts that the page shows of
@@ -10,7 +9,6 @@ const read = (path) => readFileSync(new URL(path, import.meta.url), 'utf8');
 const { samples: SAMPLES, shown: SHOWN, metrics: METRICS, facts: FACTS, results: RESULTS } = JSON.parse(read('status_data.json'));
 // The page, which a daemon serves as it is (tests/daemon/test_metrics.py).
 const [, HTML] = read('../../crates/bx_metrics/src/status_page.rt').match(/r#"([^]*)"#;/);
-const [, BODY, SCRIPT] = HTML.match(/<body>([^]*)<script>([^]*)<\/script>/);
 // The longest time for which a page may wait for metrics, in milliseconds, and how long a phone is locked.
 const PATIENCE = 30000, LOCKED = 300000;
 // What the page says of a server that it reads, that it read before, and that it never read.
@@ -27,13 +25,15 @@ class Page extends StillPage {
       assert.equal(this.timer, undefined, 'two timers');
       this.timer = { go, milliseconds };
     };
-    super(BODY, { fetch, AbortSignal: { timeout: (milliseconds) => ({ milliseconds }) }, setTimeout, location: { host: 'h' } });
-    this.run(SCRIPT);
+    super('http://h:1/', HTML, { fetch, AbortSignal: { timeout: (milliseconds) => ({ milliseconds }) }, setTimeout });
+    // jsdom drops a color that it does not know.
+    define(this.window.CSSStyleDeclaration.prototype, { background: '' });
+    this.run(this.document.scripts[0].textContent);
   }
 
   /** Returns the charts. */
   charts() {
-    return this.document.querySelector('main').children;
+    return [...this.document.querySelectorAll('.card')];
   }
 
   /** Returns the first chart with the title `title`. */
@@ -43,7 +43,7 @@ class Page extends StillPage {
 
   /** Returns how many pieces the curve of the sessions has. */
   pieces() {
-    return this.chart('Sessions').querySelector('g').children[0].attributes.d.split('M').length - 1;
+    return this.chart('Sessions').querySelector('.curve').getAttribute('d').split('M').length - 1;
   }
 
   /** Answers the request of the page. `body`: the text of the response, or null if there is none before the page gives up. */
@@ -77,12 +77,13 @@ class Page extends StillPage {
     if (wanted === LOST) assert.equal(textContent, `no metrics since ${new Date(this.lastRead).toLocaleTimeString()}`);
     else this.lastRead = this.now;
     assert.equal(className, wanted === READING ? 'connected' : 'interrupted');
-    assert.equal(this.document.body.classes.has('old'), wanted === LOST);
+    assert.equal(this.document.body.classList.contains('old'), wanted === LOST);
     const [, seconds] = textContent.match(READING) ?? [];
     if (seconds) assert.equal(this.timer.milliseconds, 1000 * seconds, 'the page reads as often as it says');
   }
 }
 
+const text = (root, part) => root.querySelector(part).textContent;
 const metrics = (sessions) => `bayeux_uptime_seconds_total 60\nbayeux_sessions ${sessions}\n`;
 
 // A server that answers, hangs, fails, is not a bayeuxd, and answers again. No request follows before the one before has ended.
@@ -136,15 +137,15 @@ test('each row of a key has the colour of its curve', async () => {
   const page = new Page();
   const refused = (reason, value) => `bayeux_requests_refused_total{status="400",reason="${reason}"} ${value}\n`;
   const lags = (count) => Array.from({ length: count }, (_, shard) => `bayeux_shard_lag_entries{shard="${shard}"} ${shard}\n`).join('');
-  const text = (count) => `${metrics(1)}${refused('quiet', 0)}${refused('first', count)}${refused('second', 2 * count)}${lags(14)}`;
+  const text = (count) => `${metrics(1)}${refused('quiet', 0)}${refused('<b>first', count)}${refused('second', 2 * count)}${lags(14)}`;
   await page.answer(text(0));
   await page.next(text(30));
-  const rows = (title) => page.chart(title).querySelector('.key').children.map(({ children: [mark, label] }) => [mark.style.background, label]);
-  const curves = (title) => page.chart(title).querySelector('g').children.map(({ style }) => style.stroke);
+  const rows = (title) => [...page.chart(title).querySelectorAll('.key li')].map((it) => [it.querySelector('i').style.background, it.textContent]);
+  const curves = (title) => [...page.chart(title).querySelectorAll('.curve')].map(({ style }) => style.stroke);
   const seconds = page.timer.milliseconds / 1000;
   // The place of each series among the curves, its name and its value.
   const wanted = {
-    'Refusals': [[1, '400 first', 30 / seconds], [2, '400 second', 60 / seconds]],
+    'Refusals': [[1, '400 <b>first', 30 / seconds], [2, '400 second', 60 / seconds]],
     'Shard lag': Array.from({ length: 12 }, (_, at) => [13 - at, `shard ${13 - at}`, 13 - at]),
   };
   for (const isRead of [true, false]) {
@@ -171,33 +172,26 @@ test('all that the charts and the facts show', async () => {
   const charts = page.charts();
   const shown = () => charts.map((root) => {
     const part = (selector) => root.querySelector(selector);
-    const texts = ['h2', '.unit', '.value', '.most'].map((it) => part(it).textContent);
-    const curves = part('g').children.map(({ tag, attributes }) => {
-      assert.deepEqual([tag, attributes.class], ['svg:path', 'curve']);
-      return attributes.d;
-    });
-    const key = part('.key').children.map(({ tag, children: [mark, label] }) => {
-      assert.deepEqual([tag, mark.tag], ['li', 'i']);
-      return label;
-    });
-    return [...texts, part('svg').attributes['aria-label'], curves, key, part('.rest').textContent, part('.cursor').attributes.d, part('.now').textContent.split(' ')[0]];
+    const texts = ['h2', '.unit', '.value', '.most'].map((it) => text(root, it));
+    const curves = [...root.querySelectorAll('svg .curve')].map((it) => it.getAttribute('d'));
+    const key = [...root.querySelectorAll('.key li')].map((it) => it.textContent);
+    const label = part('svg').getAttribute('aria-label');
+    return [...texts, label, curves, key, text(root, '.rest'), part('.cursor').getAttribute('d'), text(root, '.now').split(' ')[0]];
   });
   draw(SAMPLES);
   // The system may take the pointer, for example to scroll.
   for (const end of ['pointerleave', 'pointercancel']) {
     assert.deepEqual(shown(), SHOWN[0]);
     const plot = charts[0].querySelector('.plot');
-    plot.dispatchEvent(Object.assign(new Event('pointermove'), { clientX: 1000 - (SAMPLES.at(-1)[0] - SAMPLES[1][0]) / 1000 }));
+    define(plot, { getBoundingClientRect: () => ({ left: 100, width: 900 }) });
+    page.dispatch(plot, 'pointermove', { clientX: 1000 - (SAMPLES.at(-1)[0] - SAMPLES[1][0]) / 1000 });
     assert.deepEqual(shown(), SHOWN[1]);
     assert.equal(charts[0].querySelector('.now').textContent, `at ${new Date(SAMPLES[1][0]).toLocaleTimeString()}`);
-    plot.dispatchEvent(new Event(end));
+    page.dispatch(plot, end);
   }
   assert.deepEqual(shown(), SHOWN[0]);
-  const facts = () => page.element('facts').children.map(({ tag, children: [term, value] }) => {
-    assert.deepEqual([tag, term.tag, value.tag], ['div', 'dt', 'dd']);
-    return `${term.textContent}: ${value.textContent}`;
-  });
-  assert.equal(page.document.title, 'bayeuxd at h');
+  const facts = () => [...page.element('facts').children].map((it) => `${text(it, 'dt')}: ${text(it, 'dd')}`);
+  assert.equal(page.document.title, 'bayeuxd at h:1');
   draw([[page.now, METRICS]]);
   assert.deepEqual(facts(), FACTS);
   draw([[page.now, 'bayeux_uptime_seconds_total 5\n']]);

@@ -47,14 +47,8 @@ describe('the package', () => {
     execFileSync('node', [join(FOLDER, 'build.mjs'), '--check']);
   });
 
-  it('is packed with its files, and no others, into the same bytes', { skip: !has('npm') && 'there is no npm' }, () => {
-    const pack = () => {
-      const [found] = JSON.parse(run('npm', ['pack', FOLDER, '--json', '--silent', '--offline', '--cache', join(project, 'cache')]));
-      return { ...found, content: readFileSync(join(project, found.filename)) };
-    };
-    const { name, version, files, content } = pack();
-    assert.ok(pack().content.equals(content));
-    assert.deepEqual([name, version], ['gadzilk-client', readFileSync(join(FOLDER, '../../VERSION'), 'utf8').trim()]);
+  it('is packed with the files that it exports, and without tests', { skip: !has('npm') && 'there is no npm' }, () => {
+    const [{ files }] = JSON.parse(run('npm', ['pack', FOLDER, '--dry-run', '--json', '--silent', '--offline', '--cache', join(project, 'cache')]));
     const paths = files.map(({ path }) => path);
     const { exports, main, module, types } = JSON.parse(read('package.json'));
     const namesIn = (it) => (typeof it === 'string' ? [it.replace('./', '')] : Object.values(it).flatMap(namesIn));
