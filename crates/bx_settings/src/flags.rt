@@ -42,26 +42,32 @@ pub fn read_flags<'a>(
 ) -> Result<Settings<'a>, Error> {
     let mut command = command(alloc)?;
     let matches = command.try_get_matches_from_mut(args)?;
-    let config = read_config(alloc, &mut command, &matches, processors)?;
-    let body = read_body(alloc, &mut command, &matches)?;
-    let messages = read_messages(alloc, &mut command, &matches)?;
-    let listen = read_address(alloc, &mut command, &matches, "listen")?;
-    let read_only_listen = read_address(alloc, &mut command, &matches, "readers")?;
-    let metrics = read_address(alloc, &mut command, &matches, "metrics")?;
-    expect_another(alloc, &mut command, &matches, "readers", "listen")?;
-    expect_another(alloc, &mut command, &matches, "metrics", "listen")?;
-    expect_another(alloc, &mut command, &matches, "metrics", "readers")?;
-    let readers_publish = read_patterns(alloc, &mut command, &matches, "readers-publish")?;
-    let log = read_log_format(alloc, &mut command, &matches)?;
-    let log_level = read_log_level(alloc, &mut command, &matches)?;
-    let connections = read_connections(alloc, &mut command, &matches)?;
-    let record_bytes = read_record_bytes(alloc, &mut command, &matches)?;
+    let mut flags = GivenFlags {
+        alloc,
+        command,
+        matches,
+    };
+    let config = flags.config(processors)?;
+    let body = flags.number("body", BODY_LIMIT, BODY_LIMIT)?;
+    let messages = flags.number("messages", MAX_MESSAGES, MAX_MESSAGES)?;
+    let listen = flags.address("listen")?;
+    let read_only_listen = flags.address("readers")?;
+    let metrics = flags.address("metrics")?;
+    flags.expect_another("readers", "listen")?;
+    flags.expect_another("metrics", "listen")?;
+    flags.expect_another("metrics", "readers")?;
+    let readers_publish = flags.patterns("readers-publish")?;
+    let log = flags.log_format()?;
+    let log_level = flags.log_level()?;
+    let connections = flags.connections()?;
+    let record_bytes = flags.number("record-bytes", MAX_RECORD, usize::MAX)?;
+    let matches = flags.matches;
     Ok(Settings {
         listen: listen.unwrap_or(""),
         read_only_listen,
         readers_publish,
         config,
-        body,
+        body: BodyLimit::new(body).unwrap_or(BodyLimit::greatest()),
         messages,
         callback_polling: !matches.get_flag("no-callback-polling"),
         seed: match matches.get_str("seed-file") {
@@ -79,34 +85,140 @@ pub fn read_flags<'a>(
     })
 }
 
-fn read_config(
+// The flags that were given, and the command, which makes the texts of errors.
+#[derive(Drop)]
+struct GivenFlags<'c, 'a> {
     alloc: Global,
-    command: &mut Command<'_>,
-    matches: &ArgMatches<'_>,
-    processors: usize,
-) -> Result<Config, Error> {
-    let timeout = read_time(alloc, command, matches, "timeout")?;
-    let interval = read_time(alloc, command, matches, "interval")?;
-    let max_interval = read_time(alloc, command, matches, "max-interval")?;
-    let standard = standard_shards(processors);
-    let shards = read_number(alloc, command, matches, "shards", MAX_SHARDS, standard)?;
-    let options = Options {
-        ride: matches.get_flag("ride"),
-        anonymous: matches.get_flag("anonymous"),
-    };
-    let config = Config::new(shards, timeout, interval, max_interval);
-    let mut config = config.map(|config| config.with(options));
-    for limit in &Limit::ALL {
-        let (name, greatest, standard) = (limit.name(), limit.greatest(), limit.standard());
-        let n = read_number(alloc, command, matches, name, greatest, standard)?;
-        config = config.and_then(|config| config.with_maximum(*limit, n));
-    }
-    match config {
-        Some(config) => Ok(config),
-        None => {
-            let text = matches.get_str("shards").unwrap_or("");
-            Err(wrong(alloc, command, "shards", "a configuration", text)?)
+    command: Command<'c>,
+    matches: ArgMatches<'a>,
+}
+
+impl<'c, 'a> GivenFlags<'c, 'a> {
+    fn config(&mut self, processors: usize) -> Result<Config, Error> {
+        let timeout = self.time("timeout")?;
+        let interval = self.time("interval")?;
+        let max_interval = self.time("max-interval")?;
+        let shards = self.number("shards", MAX_SHARDS, standard_shards(processors))?;
+        let options = Options {
+            ride: self.matches.get_flag("ride"),
+            anonymous: self.matches.get_flag("anonymous"),
+        };
+        let config = Config::new(shards, timeout, interval, max_interval);
+        let mut config = config.map(|config| config.with(options));
+        for limit in &Limit::ALL {
+            let n = self.number(limit.name(), limit.greatest(), limit.standard())?;
+            config = config.and_then(|config| config.with_maximum(*limit, n));
         }
+        match config {
+            Some(config) => Ok(config),
+            None => Err(self.wrong("shards", "a configuration", self.value("shards"))?),
+        }
+    }
+
+    // Returns the address that flag `name` gives, if any.
+    fn address(&mut self, name: &str) -> Result<Option<&'a str>, Error> {
+        match self.matches.get_str(name) {
+            Some(address) if !is_address(address) => Err(self.wrong(name, ADDRESS, address)?),
+            address => Ok(address),
+        }
+    }
+
+    // Returns an error if flags `name` and `other` give the same address, with another port than 0.
+    fn expect_another(&mut self, name: &str, other: &str) -> Result<(), Error> {
+        let taken = self.matches.get_str(other);
+        match self.matches.get_str(name) {
+            Some(address) if taken == Some(address) && !address.ends_with(":0") => {
+                let right = format!(in self.alloc; "an address other than that of --{other}")?;
+                Err(self.wrong(name, right.as_str(), address)?)
+            }
+            _ => Ok(()),
+        }
+    }
+
+    // Returns the number that flag `name` gives, from 1 to `greatest`, or `standard` without the
+    // flag. The value may have a unit: `k` for 1,024 and `m` for 1,048,576.
+    fn number(&mut self, name: &str, greatest: usize, standard: usize) -> Result<usize, Error> {
+        let Some(text) = self.matches.get_str(name) else {
+            return Ok(standard);
+        };
+        match count_with_unit(greatest, text) {
+            Some(number) => Ok(number),
+            None => {
+                let units = if greatest < 1024 {
+                    ""
+                } else {
+                    " (units: k, m)"
+                };
+                let right = format!(in self.alloc; "a number from 1 to {greatest}{units}")?;
+                Err(self.wrong(name, right.as_str(), text)?)
+            }
+        }
+    }
+
+    // Returns the time that flag `name` gives, in milliseconds.
+    fn time(&mut self, name: &str) -> Result<u32, Error> {
+        let text = self.value(name);
+        match milliseconds(text) {
+            Some(time) if needs_unit(text, time) => {
+                let right = format!(in self.alloc; "a unit (write {text}s or {text}ms)")?;
+                Err(self.wrong(name, right.as_str(), text)?)
+            }
+            Some(time) => Ok(time),
+            None => Err(self.wrong(name, TIME, text)?),
+        }
+    }
+
+    // Returns the patterns that the uses of flag `name` give, in order.
+    fn patterns(&mut self, name: &str) -> Result<Vec<Pattern>, Error> {
+        let mut patterns = Vec::new(self.alloc);
+        for text in self.matches.get_strs(name).unwrap_or(&[]) {
+            match Pattern::read(self.alloc, text) {
+                Ok(pattern) => patterns.push(pattern)?,
+                Err(NameError::Memory) => return Err(AllocError.into()),
+                Err(_) => {
+                    let text = *text;
+                    return Err(self.wrong(name, PATTERN, text)?);
+                }
+            }
+        }
+        Ok(patterns)
+    }
+
+    fn connections(&mut self) -> Result<u64, Error> {
+        let text = self.value("connections");
+        match number_of(text.as_bytes()) {
+            Some(connections) => Ok(connections),
+            None => Err(self.wrong("connections", "a number without a unit", text)?),
+        }
+    }
+
+    fn log_format(&mut self) -> Result<LogFormat, Error> {
+        match self.value("log") {
+            "text" => Ok(LogFormat::Text),
+            "json" => Ok(LogFormat::Json),
+            text => Err(self.wrong("log", "text or json", text)?),
+        }
+    }
+
+    fn log_level(&mut self) -> Result<LogLevel, Error> {
+        match self.value("log-level") {
+            "error" => Ok(LogLevel::Error),
+            "warn" => Ok(LogLevel::Warn),
+            "info" => Ok(LogLevel::Info),
+            text => Err(self.wrong("log-level", "error, warn or info", text)?),
+        }
+    }
+
+    // Returns the value of flag `name`, which has a default.
+    fn value(&self, name: &str) -> &'a str {
+        self.matches.get_str(name).unwrap_or("")
+    }
+
+    // Creates the error for a wrong `value` of flag `name`. `right`: what is accepted.
+    fn wrong(&mut self, name: &str, right: &str, value: &str) -> Result<Error, AllocError> {
+        let text = format!(in self.alloc; "--{name}: expected {right}, got {value}")?;
+        self.command
+            .error(ErrorKind::ValueValidation, text.as_str())
     }
 }
 
@@ -115,21 +227,6 @@ fn standard_shards(processors: usize) -> usize
     ensures { result ≡ min (max processors 1) 64 }
 {
     processors.clamp(1, MAX_SHARDS)
-}
-
-// Returns the address that flag `name` gives, if any.
-fn read_address<'a>(
-    alloc: Global,
-    command: &mut Command<'_>,
-    matches: &ArgMatches<'a>,
-    name: &str,
-) -> Result<Option<&'a str>, Error> {
-    match matches.get_str(name) {
-        Some(address) if !is_address(address) => Err(wrong(
-            alloc, command, name, ADDRESS, address,
-        )?),
-        address => Ok(address),
-    }
 }
 
 // Returns `true` if `text` has a host and a port, and is no URL.
@@ -142,188 +239,9 @@ fn is_address(text: &str) -> bool {
     }
 }
 
-// Returns an error if flags `name` and `other` give the same address, with another port than 0.
-fn expect_another(
-    alloc: Global,
-    command: &mut Command<'_>,
-    matches: &ArgMatches<'_>,
-    name: &str,
-    other: &str,
-) -> Result<(), Error> {
-    match matches.get_str(name) {
-        Some(address) if matches.get_str(other) == Some(address) && !address.ends_with(":0") => {
-            let right = format!(in alloc; "an address other than that of --{other}")?;
-            Err(wrong(alloc, command, name, right.as_str(), address)?)
-        }
-        _ => Ok(()),
-    }
-}
-
-// Returns the number that flag `name` gives, from 1 to `greatest`, or `standard` without the flag.
-// The value may have a unit: `k` for 1,024 and `m` for 1,048,576.
-fn read_number(
-    alloc: Global,
-    command: &mut Command<'_>,
-    matches: &ArgMatches<'_>,
-    name: &str,
-    greatest: usize,
-    standard: usize,
-) -> Result<usize, Error> {
-    let Some(text) = matches.get_str(name) else {
-        return Ok(standard);
-    };
-    match count_with_unit(greatest, text) {
-        Some(number) => Ok(number),
-        None => {
-            let units = if greatest < 1024 {
-                ""
-            } else {
-                " (units: k, m)"
-            };
-            let right = format!(in alloc; "a number from 1 to {greatest}{units}")?;
-            Err(wrong(alloc, command, name, right.as_str(), text)?)
-        }
-    }
-}
-
-// Returns the time that flag `name` gives, in milliseconds.
-fn read_time(
-    alloc: Global,
-    command: &mut Command<'_>,
-    matches: &ArgMatches<'_>,
-    name: &str,
-) -> Result<u32, Error> {
-    let text = value_of(matches, name);
-    match milliseconds(text) {
-        Some(time) if needs_unit(text, time) => {
-            let right = format!(in alloc; "a unit (write {text}s or {text}ms)")?;
-            Err(wrong(alloc, command, name, right.as_str(), text)?)
-        }
-        Some(time) => Ok(time),
-        None => Err(wrong(alloc, command, name, TIME, text)?),
-    }
-}
-
 // Returns `true` if `text`, the time `time` in milliseconds, has no unit and is below a second.
 fn needs_unit(text: &str, time: u32) -> bool {
     time > 0 && time < SECOND && !text.ends_with("s")
-}
-
-// Returns the patterns that the uses of flag `name` give, in order.
-fn read_patterns(
-    alloc: Global,
-    command: &mut Command<'_>,
-    matches: &ArgMatches<'_>,
-    name: &str,
-) -> Result<Vec<Pattern>, Error> {
-    let mut patterns = Vec::new(alloc);
-    for text in matches.get_strs(name).unwrap_or(&[]) {
-        match Pattern::read(alloc, text) {
-            Ok(pattern) => patterns.push(pattern)?,
-            Err(NameError::Memory) => return Err(AllocError.into()),
-            Err(_) => return Err(wrong(alloc, command, name, PATTERN, text)?),
-        }
-    }
-    Ok(patterns)
-}
-
-fn read_body(
-    alloc: Global,
-    command: &mut Command<'_>,
-    matches: &ArgMatches<'_>,
-) -> Result<BodyLimit, Error> {
-    let body = read_number(alloc, command, matches, "body", BODY_LIMIT, BODY_LIMIT)?;
-    Ok(BodyLimit::new(body).unwrap_or(BodyLimit::greatest()))
-}
-
-fn read_messages(
-    alloc: Global,
-    command: &mut Command<'_>,
-    matches: &ArgMatches<'_>,
-) -> Result<usize, Error> {
-    read_number(
-        alloc,
-        command,
-        matches,
-        "messages",
-        MAX_MESSAGES,
-        MAX_MESSAGES,
-    )
-}
-
-fn read_record_bytes(
-    alloc: Global,
-    command: &mut Command<'_>,
-    matches: &ArgMatches<'_>,
-) -> Result<usize, Error> {
-    read_number(
-        alloc,
-        command,
-        matches,
-        "record-bytes",
-        MAX_RECORD,
-        usize::MAX,
-    )
-}
-
-fn read_connections(
-    alloc: Global,
-    command: &mut Command<'_>,
-    matches: &ArgMatches<'_>,
-) -> Result<u64, Error> {
-    let text = value_of(matches, "connections");
-    match number_of(text.as_bytes()) {
-        Some(connections) => Ok(connections),
-        None => Err(wrong(
-            alloc,
-            command,
-            "connections",
-            "a number without a unit",
-            text,
-        )?),
-    }
-}
-
-fn read_log_format(
-    alloc: Global,
-    command: &mut Command<'_>,
-    matches: &ArgMatches<'_>,
-) -> Result<LogFormat, Error> {
-    match value_of(matches, "log") {
-        "text" => Ok(LogFormat::Text),
-        "json" => Ok(LogFormat::Json),
-        text => Err(wrong(alloc, command, "log", "text or json", text)?),
-    }
-}
-
-fn read_log_level(
-    alloc: Global,
-    command: &mut Command<'_>,
-    matches: &ArgMatches<'_>,
-) -> Result<LogLevel, Error> {
-    match value_of(matches, "log-level") {
-        "error" => Ok(LogLevel::Error),
-        "warn" => Ok(LogLevel::Warn),
-        "info" => Ok(LogLevel::Info),
-        text => Err(wrong(alloc, command, "log-level", "error, warn or info", text)?),
-    }
-}
-
-// Returns the value of flag `name`, which has a default.
-fn value_of<'a>(matches: &ArgMatches<'a>, name: &str) -> &'a str {
-    matches.get_str(name).unwrap_or("")
-}
-
-// Creates the error for a wrong `value` of flag `name`. `right`: what is accepted.
-fn wrong(
-    alloc: Global,
-    command: &mut Command<'_>,
-    name: &str,
-    right: &str,
-    value: &str,
-) -> Result<Error, AllocError> {
-    let text = format!(in alloc; "--{name}: expected {right}, got {value}")?;
-    command.error(ErrorKind::ValueValidation, text.as_str())
 }
 
 fn command<'a>(alloc: Global) -> Result<Command<'a>, AllocError> {
