@@ -1,4 +1,5 @@
 """What a daemon does as time passes: ticks, answers that nobody takes, ages, holds, and expiry."""
+import itertools
 import time
 
 from base import wait_until
@@ -111,21 +112,17 @@ def test_silent_session_expires_after_the_interval(daemon, client, ticks):
     expect_error(connection.ask([{"channel": CHANNEL, "data": 1, **session}]), "402::Unknown client")
 
 
-def moments_of(record):
-    """Returns the moment of each complete line of a record, in milliseconds, and the rest of the line."""
-    lines = [it.partition(b" ") for it in record.read_bytes().split(b"\n")[1:-1]]
-    return [(int(moment), rest) for moment, _, rest in lines]
-
-
 def test_ticks_are_a_tenth_of_a_second_apart(daemon, tmp_path):
     """In real time. A busy machine has longer pauses, but not only those."""
     record = tmp_path / "record"
     server = daemon("--record", str(record))
 
+    def moments():
+        """Returns the moments of the ticks so far, which are all complete lines of the record, in milliseconds."""
+        return [int(it.removesuffix(b" T")) for it in record.read_bytes().split(b"\n")[1:-1]]
+
     def pauses():
-        """Returns the milliseconds between two ticks each so far."""
-        moments = [moment for moment, line in moments_of(record) if line == b"T"]
-        return [later - earlier for earlier, later in zip(moments, moments[1:])]
+        return [later - earlier for earlier, later in itertools.pairwise(moments())]
 
     wait_until("twenty ticks, two of them a tenth of a second apart", lambda: len(pauses()) >= 20 and min(pauses()) < 115)
     begun, page = time.monotonic(), server.scrape()
@@ -133,4 +130,4 @@ def test_ticks_are_a_tenth_of_a_second_apart(daemon, tmp_path):
     more = 10 * (time.monotonic() - begun) + 1
     assert min(pauses()) >= 100
     assert page[TICKED] <= len(pauses()) + 1 <= page[TICKED] + more
-    assert 1 <= page[UPTIME] <= moments_of(record)[-1][0] // 1000
+    assert 1 <= page[UPTIME] <= moments()[-1] // 1000

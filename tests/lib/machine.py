@@ -28,14 +28,6 @@ NEW_NETWORK = 0x40000000
 COMMAND_SECONDS = 1800
 
 
-def release():
-    """Returns the code name of this machine's Debian. Skips the test if it is another system."""
-    fields = platform.freedesktop_os_release()
-    if fields["ID"] != "debian":
-        pytest.skip("this machine has no Debian, whose release would be taken")
-    return fields["VERSION_CODENAME"]
-
-
 def find_system():
     """Returns the folder of the Debian, which is installed if it is not there. Skips the test if it cannot be."""
     if os.geteuid() != 0:
@@ -43,8 +35,11 @@ def find_system():
     for tool, package in TOOLS.items():
         if not shutil.which(tool):
             pytest.skip(f"there is no {tool} (package {package})")
+    release = platform.freedesktop_os_release()
+    if release["ID"] != "debian":
+        pytest.skip("this machine has no Debian, whose release would be taken")
     args = ["mmdebstrap", "--quiet", "--variant=minbase", f"--include={INSTALLED}", "--skip=cleanup/apt", "--aptopt=Acquire::Languages \"none\""]
-    args += [f"--customize-hook=chroot \"$1\" sh -c '{DOWNLOAD} && rm {UPDATED}'", release()]
+    args += [f"--customize-hook=chroot \"$1\" sh -c '{DOWNLOAD} && rm {UPDATED}'", release["VERSION_CODENAME"]]
     os.makedirs(FOLDER, mode=0o755, exist_ok=True)
     system = f"{FOLDER}/{hashlib.sha256(repr(args).encode()).hexdigest()[:12]}"
     with open(f"{FOLDER}/lock", "wb") as lock:

@@ -1,4 +1,5 @@
 """Programs to which a preloaded library shows other clocks, errors of calls, or another number of processors."""
+import pathlib
 import struct
 import threading
 
@@ -37,18 +38,13 @@ class Clock:
             self.milliseconds += round(seconds * 1000)
             file.write(struct.pack("<q", self.milliseconds))
 
-    def counts(self):
-        """Returns how many sleeps of a tick or longer, and how many waits for events have begun."""
-        with open(self.path, "rb") as file:
-            return struct.unpack("<qqq", file.read())[1:]
-
     def begun(self):
         """Returns how many sleeps of a tick or longer have begun."""
-        return self.counts()[0]
+        return struct.unpack_from("<q", pathlib.Path(self.path).read_bytes(), 8)[0]
 
     def looks(self):
         """Returns how many waits for events have begun. The program looks at the clock after each."""
-        return self.counts()[1]
+        return struct.unpack_from("<q", pathlib.Path(self.path).read_bytes(), 16)[0]
 
     def await_looks(self, count):
         """Waits until the program has waited for events `count` more times, so that it has most probably looked at the clock."""
