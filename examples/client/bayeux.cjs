@@ -49,7 +49,7 @@ function safeListener(listener) {
 
 const IS_PAGE = typeof document !== 'undefined';
 const isShown = () => !IS_PAGE || !document.hidden;
-const MOST_MESSAGES = 256;
+const MOST_MESSAGES = 32;
 const MOST_LAST = 65536;
 function eitherOf(...signals) {
   const either = new AbortController();

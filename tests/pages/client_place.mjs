@@ -19,7 +19,7 @@ export const NETWORK_TIMEOUT = 10000;
 export const LONGEST_PAUSE = 10000;
 export const FIRST_PAUSE = 1000;
 // What a request has at most: messages, and bytes of its target and its body, with the package's flags (docs/PROTOCOL.md, "Requests").
-const [MOST_MESSAGES, LONGEST_TARGET, LONGEST_BODY] = [256, 64 * 1024 - 100, 65536];
+const [MOST_MESSAGES, LONGEST_TARGET, LONGEST_BODY] = [32, 64 * 1024 - 100, 65536];
 
 /** Waits until `condition()` returns a true value, and returns it. */
 export async function until(what, condition) {

@@ -7,9 +7,9 @@ export const IS_PAGE = typeof document !== 'undefined';
 /** Returns whether the user sees this page. A worker and a program always count as seen. */
 export const isShown = () => !IS_PAGE || !document.hidden;
 
-// The most that a request has: messages, and bytes of its body (with the server's package, 65,536) or
-// of its query. One message alone may be larger.
-export const MOST_MESSAGES = 256;
+// The most that a request has with the server's package: messages, and bytes of its body (65,536) or of
+// its query. One message alone may be larger.
+export const MOST_MESSAGES = 32;
 // A browser sends at most 64 KiB for a page that is gone.
 const MOST_LAST = 65536;
 

@@ -117,18 +117,18 @@ describe('errors', () => {
 });
 
 describe('publishes that wait', () => {
-  it('are sent together, in order, at most 256, as they were at the call, and each has its own outcome', async () => {
+  it('are sent together, in order, at most 32, as they were at the call, and each has its own outcome', async () => {
     await start();
     const later = server.later('/a');
     const outcomes = [client.publish('/a', 'first')];
     const go = await later;
     const data = { number: 0 };
-    const numbers = Array.from({ length: 300 }, (_, number) => number);
+    const numbers = Array.from({ length: 40 }, (_, number) => number);
     for (data.number of numbers) outcomes.push(client.publish('/a', data));
     server.next('/a', rejection('/a', '400::Missing data'));
     go();
-    assert.deepEqual(await outcomesOf(outcomes), ['done', 400, ...Array(299).fill('done')]);
-    assert.deepEqual(dataSent('/a').map((it) => it.map((sent) => sent.number ?? sent)), [['first'], numbers.slice(0, 256), numbers.slice(256)]);
+    assert.deepEqual(await outcomesOf(outcomes), ['done', 400, ...Array(39).fill('done')]);
+    assert.deepEqual(dataSent('/a').map((it) => it.map((sent) => sent.number ?? sent)), [['first'], numbers.slice(0, 32), numbers.slice(32)]);
   });
 
   it('fit into a request of 64 KiB, unless one alone does not', async () => {

@@ -20,7 +20,7 @@ from .errors import BayeuxError, Forbidden, HTTPStatus, InvalidResponse, Rejecte
 DEFAULT_URL = "http://127.0.0.1:8087/cometd"
 # What a request has at most: messages, and bytes, with the package's flags (docs/PROTOCOL.md, "Requests"). The last
 # number is that of the patterns of a message.
-MOST_MESSAGES, MOST_BYTES, MOST_PATTERNS = 256, 60_000, 64
+MOST_MESSAGES, MOST_BYTES, MOST_PATTERNS = 32, 60_000, 64
 # HTTP statuses with which a request has no effect because of one of its messages, or of its size.
 REFUSED_AS_A_WHOLE = (403, 413)
 
