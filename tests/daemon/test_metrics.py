@@ -19,8 +19,6 @@ from metrics import CONNECTS_HELD, FILED, OPEN, OPENED, REFUSED_TICKS, REQUESTS_
 from metrics import wait_for_metrics
 
 CHANNEL = "/watched"
-# The bytes of a field in a long head for the metrics listener, such as the cookies of a browser.
-LONG_FIELD = 4000
 
 
 @pytest.mark.parametrize(
@@ -34,7 +32,8 @@ LONG_FIELD = 4000
         (get(b"?message=[]"), 404),
         (post(b"[]", path=b"/metrics"), 405),
         (b"GET /healthz HTTP/1.0\r\n\r\n", 200),
-        (b"GET /metrics HTTP/1.1\r\nhost: h\r\naccept: %s\r\n\r\n" % (b"a" * LONG_FIELD), 200),
+        # With a field as long as the cookies of a browser.
+        (b"GET /metrics HTTP/1.1\r\nhost: h\r\naccept: %s\r\n\r\n" % (b"a" * 4000), 200),
         (b"GET /healthzx HTTP/1.1\r\n\r\n", 404),
         (b"\r\n\r\n", 405),
     ],
@@ -46,8 +45,7 @@ def test_metrics_listener_serves_its_paths_only(daemon, request_, status):
 
 def test_status_page_is_at_the_root(daemon):
     page = ask_for(daemon().metrics, get(b"", b"/"))
-    assert page.status == 200
-    assert page.fields[b"content-type"] == b"text/html; charset=utf-8"
+    assert (page.status, page.fields[b"content-type"]) == (200, b"text/html; charset=utf-8")
     assert (page.fields[b"x-content-type-options"], page.fields[b"x-frame-options"]) == (b"nosniff", b"DENY")
     assert b"<title>bayeuxd</title>" in page.body and b"fetch('metrics'" in page.body
 
