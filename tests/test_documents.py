@@ -311,15 +311,12 @@ def test_comments_are_narrow() -> None:
     assert wide == []
 
 
-def doc_comments() -> Iterator[tuple[str, str]]:
-    """Yields the path of a Rattle file and a doc comment, for each function that has one."""
+def test_first_sentences_of_doc_comments_are_short() -> None:
+    found = []
     for path in sources():
         for head in DOC_COMMENT.finditer(path.read_text(encoding="utf-8")):
-            yield str(path.relative_to(TOP)), re.sub(r"(?m)^ */// ?", "", head[1])
-
-
-def test_first_sentences_of_doc_comments_are_short() -> None:
-    found = [(path, SENTENCE_END.split(squeezed([text.partition("\n\n")[0]]))[0]) for path, text in doc_comments()]
+            first = re.sub(r"(?m)^ */// ?", "", head[1]).partition("\n\n")[0]
+            found.append((str(path.relative_to(TOP)), SENTENCE_END.split(squeezed([first]))[0]))
     assert len(found) > 500
     assert [(path, it) for path, it in found if len(it) > WIDTH] == []
 

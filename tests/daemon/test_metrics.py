@@ -21,8 +21,6 @@ from metrics import wait_for_metrics
 from strace import NO_STRACE, STRACE, can_trace, start_traced
 
 CHANNEL = "/watched"
-# The bytes of a field in a long head for the metrics listener, such as the cookies of a browser.
-LONG_FIELD = 4000
 
 # A page of another site whose name leads to the server could read these paths, but for the host name in its requests.
 HOST_PATHS, OTHER_HOSTS = (b"/", b"/sessions", b"/channels"), (b"evil.example", b" 127.0.0.1.example:80", b"")
@@ -40,7 +38,8 @@ OWN_HOSTS = b"127.0.0.1:9090", b"[::1]:80", b"192.0.2.1", b"localhost:1"
         (get(b"?message=[]"), 404),
         (post(b"[]", path=b"/metrics"), 405),
         (b"GET /healthz HTTP/1.0\r\n\r\n", 200),
-        (b"GET /metrics HTTP/1.1\r\nhost: h\r\naccept: %s\r\n\r\n" % (b"a" * LONG_FIELD), 200),
+        # With a field as long as the cookies of a browser.
+        (b"GET /metrics HTTP/1.1\r\nhost: h\r\naccept: %s\r\n\r\n" % (b"a" * 4000), 200),
         (b"GET /healthzx HTTP/1.1\r\n\r\n", 404),
         (b"\r\n\r\n", 405),
         *((b"GET %s HTTP/1.1\r\nHOST:%s\r\n\r\n" % (path, host), 421) for path in HOST_PATHS for host in OTHER_HOSTS),
@@ -55,8 +54,7 @@ def test_metrics_listener_serves_its_paths_only(daemon, request_, status):
 
 def test_status_page_is_at_the_root(daemon):
     page = ask_for(daemon().metrics, get(b"", b"/"))
-    assert page.status == 200
-    assert page.fields[b"content-type"] == b"text/html; charset=utf-8"
+    assert (page.status, page.fields[b"content-type"]) == (200, b"text/html; charset=utf-8")
     assert (page.fields[b"x-content-type-options"], page.fields[b"x-frame-options"]) == (b"nosniff", b"DENY")
     assert b"<title>bayeuxd</title>" in page.body and b"fetch('metrics'" in page.body
 

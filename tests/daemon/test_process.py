@@ -48,16 +48,14 @@ def test_metrics_show_the_version_and_the_limits(daemon):
     server.expect({("bayeux_build_info", f'{{version="{read("VERSION").strip()}"}}'): 1, **limits, **times})
 
 
-def test_metrics_have_no_limit_that_is_not_given(daemon):
-    assert ("bayeux_limit", '{name="bytes"}') not in daemon().scrape()
-
-
 def test_metrics_show_the_start_and_the_limit_of_files(daemon):
+    """But no limit that is not given."""
     before, server, after = time.time(), daemon(), time.time()
     found = process_metrics(server)
     # The system has the start of the machine in whole seconds.
     assert before - 2 <= found["process_start_time_seconds"] <= after + 2
     assert found["process_max_fds"] == resource.prlimit(server.process.pid, resource.RLIMIT_NOFILE)[0]
+    assert ("bayeux_limit", '{name="bytes"}') not in server.scrape()
 
 
 def test_metrics_show_the_memory(daemon):

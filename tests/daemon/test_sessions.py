@@ -15,8 +15,6 @@ CHANNEL = "/loopback"
 ARGUMENTS = ["127.0.0.1:0", "2", "30000", "0", "600000", SEED]
 # The most sessions that may live, and the most of them that a list shows.
 MOST, MOST_LISTED = 65_536, 1000
-# How often work is measured.
-ROUNDS = 5
 
 
 def test_event_reaches_a_waiting_client(daemon, client):
@@ -146,7 +144,7 @@ def test_work_of_the_most_sessions_costs_no_more_than_with_a_thousand(daemon, cl
     sessions = [open_session(it) for it in connections]
     for connection, count in zip(connections, counts):
         open_many(connection, count - 2)
-    times = [[work_seconds(*it, count=40) for it in zip(servers, connections, sessions)] for _ in range(ROUNDS)]
+    times = [[work_seconds(*it, count=40) for it in zip(servers, connections, sessions)] for _ in range(5)]
     many, few = ([min(them) for them in zip(*its)] for its in zip(*times))
     assert all(found <= 2 * least for found, least in zip(many, few)), f"{many} seconds, and {few} with a thousand"
     expect_limit_of_sessions(servers[0], connections[0], MOST)

@@ -42,11 +42,6 @@ REJECTED_LINES = [
 ]
 
 
-def listed(text, count):
-    """Returns `count` copies of `text`, separated by commas."""
-    return ",".join([text] * count)
-
-
 def answered(*pairs):
     """Returns the script and the expected output of requests that are answered in turn: pairs of a body and what is printed."""
     return "".join(f"0 P {body}\n" for body, _ in pairs), "".join(f"{line} {printed}\n" for line, (_, printed) in enumerate(pairs, 1))
@@ -105,11 +100,11 @@ def overflows():
 def limits():
     """Yields two sessions for which the greatest number of events waits. One more overflows the one that has fetched none."""
     for limit in (1_025, 65_536):
-        counts, polled = [256] * (limit // 256) + [limit % 256], f"200 [{listed('<event /a/b 1>', 256)},<connected 1>]"
+        counts, polled = [256] * (limit // 256) + [limit % 256], "200 [<list 256 <event /a/b 1>>,<connected 1>]"
         yield f"{limit} events may wait", *answered(
             *handshakes(1, 2),
             ("[<subscribe 1 /a/b>,<subscribe 2 /a/b>]", "200 [<subscribed 1 /a/b>,<subscribed 2 /a/b>]"),
-            *((f"[{listed('<publish 1 /a/b 1>', it)}]", f"200 [{listed('<published /a/b>', it)}]") for it in counts),
+            *((f"[<list {it} <publish 1 /a/b 1>>]", f"200 [<list {it} <published /a/b>>]") for it in counts),
             ("[<poll 1>]", polled),
             ("[<publish 1 /a/b 2>]", "200 [<published /a/b>]"),
             ("[<poll 2>]", "200 [<overflowed 2>]"),
@@ -141,7 +136,7 @@ def long_arrays():
     """Yields a publish with the longest allowed body, an array of half a million numbers, and one that is a byte longer."""
     front, end = expand_macros('[{"channel":"/a/b","clientId":"<client 1>","data":['), "]}]"
     room = BODY - len(front) - len(end)
-    data = listed("1", room // 2 + 1) if room % 2 else listed("1", room // 2 - 1) + ",10"
+    data = f"<list {room // 2 + 1} 1>" if room % 2 else f"<list {room // 2 - 1} 1>,10"
     yield "an array of half a million numbers", *answered(
         *handshakes(1),
         ("[<subscribe 1 /a/b>]", "200 [<subscribed 1 /a/b>]"),

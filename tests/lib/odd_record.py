@@ -42,7 +42,7 @@ def opening(most, error):
 kind, value, *rest = sys.argv[1:]
 if kind == "torn":
     name, *rest = rest
-    records.open = opening(int(value), getattr(builtins, name)(errno.EIO, os.strerror(errno.EIO)))
+    setattr(records, "open", opening(int(value), getattr(builtins, name)(errno.EIO, os.strerror(errno.EIO))))
 else:
     clock, file = time.monotonic, pathlib.Path(value)
     time.monotonic = lambda: clock() + float(file.read_text(encoding="ascii"))

@@ -146,8 +146,8 @@ class Growing:
         self.add(FIRST_LINE, "0 P [<handshake>]", "A 0 sha256([<opened 1>])")
         self.pass_time(0)
         args = [*ODD_RECORD, "clock", str(self.clock), "--record", str(path), "--check", "--follow"]
-        how = {"stdout": subprocess.PIPE, "stderr": subprocess.STDOUT, "env": {**os.environ, "REPLAY": replay}}
-        self.process: Any = subprocess.Popen(args, **how)
+        environment = {**os.environ, "REPLAY": replay}
+        self.process: Any = subprocess.Popen(args, stdout=subprocess.PIPE, stderr=subprocess.STDOUT, env=environment)
         self.wait_for(f"following {path}\n")
 
     def pass_time(self, seconds: int) -> None:
