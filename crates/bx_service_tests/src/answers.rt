@@ -32,10 +32,6 @@ const MEGABYTE: usize = 1_000_000;
 const LARGEST: u64 = 256_007_425;
 
 /// Creates an event on `/a/b` with a JSON string of `count` times `sign` as its data.
-///
-/// # Errors
-///
-/// An error if memory runs out.
 pub fn event(alloc: Global, sign: &str, count: usize) -> Result<Item, Fail> {
     let data = json_string(alloc, sign, count)?;
     Ok(Item::EventItem(bx_calls::event(alloc, "/a/b", data.as_str())?))

@@ -5,11 +5,10 @@ use bx_calls::{
 };
 use bx_entry::Ticket;
 use bx_held::PendingAnswer;
-use bx_hub::{Hub, HubFault, HubKind, Pass};
+use bx_hub::{HubFault, HubKind, Pass};
 use futures::task::Poll;
-use std::alloc::Global;
 use std::process::Abort;
-use std::sync::{Arc, Wait};
+use std::sync::Wait;
 use std::test::*;
 
 // The ticket of the connect that each run holds.
@@ -31,10 +30,8 @@ enum Want {
 
 // A hub, a caller's pass, and two tasks that can poll a held connect.
 #[derive(Drop)]
-struct Bench<'a, L: HubKind, H: Wait + Drop, R> {
-    rt: &'a R,
-    alloc: Global,
-    hub: Arc<Hub<L, H>, Global>,
+struct Bench<'a, L: HubKind, R: Wait + Drop> {
+    stage: &'a Stage<L, R>,
     pass: Pass<L>,
     tasks: Tasks,
 }
@@ -144,7 +141,7 @@ const RUNS: [&[Step]; 12] = [
     ],
 ];
 
-impl<L: HubKind, H: Wait + Drop, R: Wait + Abort> Bench<'_, L, H, R> {
+impl<L: HubKind, R: Wait + Abort + Drop> Bench<'_, L, R> {
     // Returns a future of the answer under `ticket`. Fails if the pass has not seen its entry.
     fn wait(&self, ticket: Ticket) -> Result<PendingAnswer<L>, Fail> {
         let pass = self.pass.again();
@@ -156,12 +153,13 @@ impl<L: HubKind, H: Wait + Drop, R: Wait + Abort> Bench<'_, L, H, R> {
 
     // Polls `held` once, in `task`, and checks that the output is what `want` describes.
     fn check_poll(&self, task: Task, held: &mut PendingAnswer<L>, want: Want) -> Result<(), Fail> {
-        let (rt, task) = (self.rt, self.tasks.task(task));
-        let (polled, _left) = task.enter(|cx| held.poll(rt, self.alloc, &self.hub, cx));
+        let Stage { rt, alloc, hub } = self.stage;
+        let task = self.tasks.task(task);
+        let (polled, _left) = task.enter(|cx| held.poll(rt, *alloc, hub, cx));
         match (polled, want) {
             (Poll::Pending, Want::Pending) | (Poll::Ready(Ok(None)), Want::None) => Ok(()),
             (Poll::Ready(Ok(Some(answer))), Want::Answer(text)) => {
-                let found = text_of(self.alloc, answer)?;
+                let found = text_of(*alloc, answer)?;
                 same(rt, found.as_slice(), text.as_bytes(), text);
                 Ok(())
             }
@@ -182,7 +180,7 @@ impl<L: HubKind, H: Wait + Drop, R: Wait + Abort> Bench<'_, L, H, R> {
     }
 
     fn take(&mut self, held: &mut PendingAnswer<L>, step: Step) -> Result<(), Fail> {
-        let (rt, alloc) = (self.rt, self.alloc);
+        let Stage { rt, alloc, hub } = self.stage;
         match step {
             Step::Waits(task) => {
                 self.check_poll(task, held, Want::Pending)?;
@@ -193,22 +191,23 @@ impl<L: HubKind, H: Wait + Drop, R: Wait + Abort> Bench<'_, L, H, R> {
                 self.check_poll(Task::First, &mut self.wait(ticket)?, want)?;
             }
             Step::Woken(task, want) => same(rt, self.tasks.task(task).is_woken(), want, task),
-            Step::Post(bodies) => post_all(rt, alloc, &self.hub, &mut self.pass, bodies)?,
+            Step::Post(bodies) => post_all(rt, *alloc, hub, &mut self.pass, bodies)?,
             Step::Tick(moment) => {
-                tick(rt, alloc, &self.hub, &mut self.pass, moment)?;
+                tick(rt, *alloc, hub, &mut self.pass, moment)?;
             }
-            Step::Close => drop(self.hub.close(rt)),
+            Step::Close => drop(hub.close(rt)),
             Step::Pause => {
-                let paused = self.hub.pause(rt, TICKET.shard);
+                let paused = hub.pause(rt, TICKET.shard);
                 same(rt, paused.is_some(), true, "a pause");
             }
-            Step::Sweep => same(rt, self.hub.sweep(rt, 1_000).dropped(), 1, "a sweep"),
+            Step::Sweep => same(rt, hub.sweep(rt, 1_000).dropped(), 1, "a sweep"),
         }
         Ok(())
     }
 
     fn run(&mut self, steps: &[Step]) -> Result<(), Fail> {
-        hold(self.rt, self.alloc, &self.hub, &mut self.pass)?;
+        let Stage { rt, alloc, hub } = self.stage;
+        hold(rt, *alloc, hub, &mut self.pass)?;
         let mut held = self.wait(TICKET)?;
         for step in steps {
             self.take(&mut held, *step)?;
@@ -224,21 +223,18 @@ struct HeldConnect {
     steps: &'static [Step],
 }
 
-impl<R: Wait + Abort> HubWork<&R> for HeldConnect {
+impl<R: Wait + Abort + Drop> HubWork<R> for HeldConnect {
     type Value = ();
 
     type Fault = Fail;
 
-    fn work<L: HubKind>(self, stage: &Stage<L, &R>) -> Result<(), Fail> {
-        let HeldConnect { tasks, steps } = self;
+    fn work<L: HubKind>(self, stage: &Stage<L, R>) -> Result<(), Fail> {
         let mut bench = Bench {
-            rt: stage.rt,
-            alloc: stage.alloc,
-            hub: Arc::try_clone(&stage.hub)?,
+            stage,
             pass: stage.hub.pass(),
-            tasks,
+            tasks: self.tasks,
         };
-        bench.run(steps)
+        bench.run(self.steps)
     }
 }
 

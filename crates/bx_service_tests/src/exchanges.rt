@@ -5,12 +5,13 @@ use crate::same::same;
 use bx_advice::{BodyLimit, Options};
 use bx_calls::{HubWork, Stage, Tasks, config_of, tick, work_in_open_hub};
 use bx_entry::{Access, SharedPatterns};
-use bx_hub::{Hub, HubKind, Pass};
+use bx_hub::{HubKind, Pass};
 use bx_service::{Backend, BayeuxService, Clock, HubBackend, Nonces};
 use futures::Future;
 use hyper::service::Service;
-use std::alloc::Global;
+use std::alloc::AllocGlobal;
 use std::process::Abort;
+use std::random::RandomSource;
 use std::sync::{Arc, Wait};
 use std::test::*;
 
@@ -30,67 +31,75 @@ impl Nonces for Still {
     }
 }
 
-// Four services that post to one hub, a caller's pass, and two tasks that poll exchanges.
+// Four services that post to one hub.
 #[derive(Drop)]
-struct Bench<'a, L: HubKind, S: Drop, H: Wait + Drop, R> {
-    rt: &'a R,
-    alloc: Global,
-    hub: Arc<Hub<L, H>, Global>,
-    pass: Pass<L>,
+struct Services<S: Drop> {
     // The service at the publishers' listener.
-    service: BayeuxService<S>,
+    usual: BayeuxService<S>,
     // The service at the read-only listener.
     readers: BayeuxService<S>,
     // The service with a clock fixed at a moment above the greatest that a request may have.
     too_late: BayeuxService<S>,
     // The service with a limit of 16 bytes on bodies and queries.
     small: BayeuxService<S>,
+}
+
+// A hub and its services, a caller's pass, and two tasks that poll exchanges.
+#[derive(Drop)]
+struct Bench<'a, L: HubKind, S: Drop, R: Wait + Drop> {
+    stage: &'a Stage<L, R>,
+    pass: Pass<L>,
+    services: Services<S>,
     tasks: Tasks,
 }
 
-impl<L: HubKind, S: Backend<Items: Drop>, H: Wait + Drop, R: Wait + Abort> Bench<'_, L, S, H, R> {
+impl<L: HubKind, S: Backend<Items: Drop>, R: Wait + Abort + Drop> Bench<'_, L, S, R> {
     // Checks that the first poll of the exchange for `ask` returns the response `want`.
     fn asks(&self, service: &BayeuxService<S>, ask: Ask, want: Want) -> Result<(), Fail> {
-        let mut exchange = service.call(ask.request(self.alloc)?);
-        check_given(self.rt, self.alloc, &mut exchange, &self.tasks.second, want)
+        let Stage { rt, alloc, .. } = self.stage;
+        let mut exchange = service.call(ask.request(*alloc)?);
+        check_given(rt, *alloc, &mut exchange, &self.tasks.second, want)
     }
 
     // Checks that the first poll of the exchange for a POST of `text` is pending. Then drops the
     // exchange.
     fn waits(&self, text: &'static str) -> Result<(), Fail> {
-        let mut exchange = self.service.call(Ask::post(text).request(self.alloc)?);
-        check_pending(self.rt, &mut exchange, &self.tasks.second, false);
+        let request = Ask::post(text).request(self.stage.alloc)?;
+        let mut exchange = self.services.usual.call(request);
+        check_pending(&self.stage.rt, &mut exchange, &self.tasks.second, false);
         Ok(())
     }
 
     // Checks that a POST gets 400 if its body fails after a prefix of `text`, for each prefix.
     fn breaks(&self, text: &'static str) -> Result<(), Fail> {
+        let service = &self.services.usual;
         for len in 0..=text.len() {
-            self.asks(&self.service, Ask::Broken(text, len), Want::Status(400))?;
+            self.asks(service, Ask::Broken(text, len), Want::Status(400))?;
         }
         Ok(())
     }
 
     fn take(&mut self, step: Step) -> Result<(), Fail> {
-        let rt = self.rt;
+        let Stage { rt, alloc, hub } = self.stage;
+        let all = &self.services;
         match step {
-            Step::Post(text, json) => self.asks(&self.service, Ask::post(text), Want::Json(json))?,
+            Step::Post(text, json) => self.asks(&all.usual, Ask::post(text), Want::Json(json))?,
             Step::Query(target, script) => {
-                self.asks(&self.service, Ask::Get(target), Want::Script(script))?;
+                self.asks(&all.usual, Ask::Get(target), Want::Script(script))?;
             }
-            Step::Ask(ask, want) => self.asks(&self.service, ask, want)?,
-            Step::Small(ask, want) => self.asks(&self.small, ask, want)?,
-            Step::Read(ask, want) => self.asks(&self.readers, ask, want)?,
-            Step::ReadText(text, want) => self.asks(&self.readers, Ask::post(text), want)?,
-            Step::TooLate(text, want) => self.asks(&self.too_late, Ask::post(text), want)?,
+            Step::Ask(ask, want) => self.asks(&all.usual, ask, want)?,
+            Step::Small(ask, want) => self.asks(&all.small, ask, want)?,
+            Step::Read(ask, want) => self.asks(&all.readers, ask, want)?,
+            Step::ReadText(text, want) => self.asks(&all.readers, Ask::post(text), want)?,
+            Step::TooLate(text, want) => self.asks(&all.too_late, Ask::post(text), want)?,
             Step::Wait(text) => self.waits(text)?,
             Step::Break(text) => self.breaks(text)?,
             Step::Tick(moment) => {
-                tick(rt, self.alloc, &self.hub, &mut self.pass, moment)?;
+                tick(rt, *alloc, hub, &mut self.pass, moment)?;
             }
-            Step::Close => drop(self.hub.close(rt)),
-            Step::Pause => same(rt, self.hub.pause(rt, 1).is_some(), true, "a pause"),
-            Step::Sweep(count) => same(rt, self.hub.sweep(rt, 5).dropped(), count, "a sweep"),
+            Step::Close => drop(hub.close(rt)),
+            Step::Pause => same(rt, hub.pause(rt, 1).is_some(), true, "a pause"),
+            Step::Sweep(count) => same(rt, hub.sweep(rt, 5).dropped(), count, "a sweep"),
         }
         Ok(())
     }
@@ -112,17 +121,25 @@ impl<L: HubKind, S: Backend<Items: Drop>, H: Wait + Drop, R: Wait + Abort> Bench
     ) -> Result<(), Fail>
         requires { F.can_poll exchange.old }
     {
-        check_pending(self.rt, exchange, &self.tasks.first, held.is_late);
+        let Stage { rt, alloc, .. } = self.stage;
+        check_pending(rt, exchange, &self.tasks.first, held.is_late);
         self.take_all(held.before)?;
         if !held.before.is_empty() {
-            check_pending(self.rt, exchange, &self.tasks.first, false);
+            check_pending(rt, exchange, &self.tasks.first, false);
         }
         self.take_all(held.then)?;
         if let Some((is_woken, want)) = held.gives {
-            same(self.rt, self.tasks.first.is_woken(), is_woken, "a wake");
-            check_given(self.rt, self.alloc, exchange, &self.tasks.first, want)?;
+            same(rt, self.tasks.first.is_woken(), is_woken, "a wake");
+            check_given(rt, *alloc, exchange, &self.tasks.first, want)?;
         }
         Ok(())
+    }
+
+    // Makes the exchange `held`, which waits during other steps.
+    fn hold(&mut self, held: &Held) -> Result<(), Fail> {
+        let request = held.ask.request(self.stage.alloc)?;
+        let mut exchange = self.services.usual.call(request);
+        self.watch(&mut exchange, held)
     }
 
     // Executes the run with index `number`, and checks its responses.
@@ -130,26 +147,36 @@ impl<L: HubKind, S: Backend<Items: Drop>, H: Wait + Drop, R: Wait + Abort> Bench
         let run = run_at(number).ok_or("no such run")?;
         self.take_all(run.first)?;
         if let Some(held) = &run.held {
-            let mut exchange = self.service.call(held.ask.request(self.alloc)?);
-            self.watch(&mut exchange, held)?;
+            self.hold(held)?;
         }
         self.take_all(run.last)
     }
 }
 
-// Creates a service over `hub` with `access`. Its clock is fixed at `moment`, in milliseconds, and
-// its nonces are 0.
-fn service_of<'a, L: HubKind, R: Wait>(
-    rt: &'a R,
-    alloc: Global,
-    hub: &Arc<Hub<L, &'a R>, Global>,
+// Creates a service over the hub of `stage` with `access`. Its clock is fixed at `moment`, in
+// milliseconds, and its nonces are 0.
+fn service_of<L: HubKind, R: Wait + Copy + Drop>(
+    stage: &Stage<L, R>,
     access: Access,
     moment: u64,
-) -> Result<BayeuxService<HubBackend<L, &'a R, Still, Still>>, Fail> {
-    let hub = Arc::try_clone(hub)?;
+) -> Result<BayeuxService<HubBackend<L, R, Still, Still>>, Fail> {
+    let hub = Arc::try_clone(&stage.hub)?;
     let still = Still(moment);
-    let backend = HubBackend::new(rt, alloc, hub, access, still, still);
-    Ok(BayeuxService::new(alloc, backend)?)
+    let backend = HubBackend::new(stage.rt, stage.alloc, hub, access, still, still);
+    Ok(BayeuxService::new(stage.alloc, backend)?)
+}
+
+fn services_of<L: HubKind, R: Wait + Copy + Drop>(
+    stage: &Stage<L, R>,
+) -> Result<Services<HubBackend<L, R, Still, Still>>, Fail> {
+    let none = SharedPatterns::new(stage.alloc, Vec::new(stage.alloc))?;
+    let limit = BodyLimit::new(SMALL).ok_or("no such limit")?;
+    Ok(Services {
+        usual: service_of(stage, Access::ReadWrite, 0)?,
+        readers: service_of(stage, Access::ReadOnly(none), 0)?,
+        too_late: service_of(stage, Access::ReadWrite, (1 << 62) + 1)?,
+        small: service_of(stage, Access::ReadWrite, 0)?.with_limit(limit),
+    })
 }
 
 // The run with index `number`, and the tasks that poll its exchanges.
@@ -159,43 +186,43 @@ struct ExchangeRun {
     number: usize,
 }
 
-impl<'a, R: Wait + Abort> HubWork<&'a R> for ExchangeRun {
+impl<R: Wait + Abort + Copy + Drop> HubWork<R> for ExchangeRun {
     type Value = ();
 
     type Fault = Fail;
 
-    fn work<L: HubKind>(self, stage: &Stage<L, &'a R>) -> Result<(), Fail> {
-        let (rt, alloc, hub) = (stage.rt, stage.alloc, &stage.hub);
-        let ExchangeRun { tasks, number } = self;
-        let none = SharedPatterns::new(alloc, Vec::new(alloc))?;
-        let limit = BodyLimit::new(SMALL).ok_or("no such limit")?;
+    fn work<L: HubKind>(self, stage: &Stage<L, R>) -> Result<(), Fail> {
+        let services = services_of(stage)?;
         let mut bench = Bench {
-            rt,
-            alloc,
-            pass: hub.pass(),
-            service: service_of(rt, alloc, hub, Access::ReadWrite, 0)?,
-            readers: service_of(rt, alloc, hub, Access::ReadOnly(none), 0)?,
-            too_late: service_of(rt, alloc, hub, Access::ReadWrite, (1 << 62) + 1)?,
-            small: service_of(rt, alloc, hub, Access::ReadWrite, 0)?.with_limit(limit),
-            hub: Arc::try_clone(hub)?,
-            tasks,
+            stage,
+            pass: stage.hub.pass(),
+            services,
+            tasks: self.tasks,
         };
-        bench.execute(number)
+        bench.execute(self.number)
     }
 }
 
-// Checks the responses of all runs, each over a new hub of two shards.
+// Checks the responses of the run with index `number`, over a new hub of two shards.
+fn check_run<R: Wait + Abort + AllocGlobal + RandomSource>(
+    rt: &R,
+    number: usize,
+) -> Result<(), Fail> {
+    let config = config_of(2).ok_or("no configuration")?;
+    let ride = run_at(number).ok_or("no such run")?.ride;
+    let config = config.with(Options {
+        ride,
+        anonymous: false,
+    });
+    let tasks = Tasks::new(rt)?;
+    work_in_open_hub(rt, rt.alloc(), config, ExchangeRun { tasks, number })
+}
+
+// Checks the responses of all runs.
 #[test]
 fn exchanges(rt: HostRuntime) -> Result<(), Fail> {
-    let config = config_of(2).ok_or("no configuration")?;
     for number in 0..COUNT {
-        let run = run_at(number).ok_or("no such run")?;
-        let config = config.with(Options {
-            ride: run.ride,
-            anonymous: false,
-        });
-        let tasks = Tasks::new(&rt)?;
-        work_in_open_hub(&rt, rt.alloc(), config, ExchangeRun { tasks, number })?;
+        check_run(&rt, number)?;
     }
     Ok(())
 }

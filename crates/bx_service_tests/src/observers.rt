@@ -1,6 +1,7 @@
 //! Tests of observers: the events that a service reports, with a backend of fixed outcomes.
 use crate::answers::event;
 use crate::requests::Ask;
+use crate::same::same;
 use bx_cut::Bodies;
 use bx_entry::Refusal;
 use bx_hub::PostFault;
@@ -119,6 +120,35 @@ impl Future for Given {
     }
 }
 
+// Makes an exchange for `ask` over a connection to `service`, and polls it up to three times. Then
+// closes the connection.
+fn exchange<O: Observer>(
+    alloc: Global,
+    task: &MockTask,
+    service: &BayeuxService<Saying, O>,
+    ask: Ask,
+) -> Result<(), Fail> {
+    let connection = service.clone()?;
+    let mut exchange = connection.call(ask.request(alloc)?);
+    for _ in 0..3 {
+        if task.poll(&mut exchange).is_ready() {
+            break;
+        }
+    }
+    Ok(())
+}
+
+// Makes an exchange for `ask` with a backend that does `said`, and returns the digits of two
+// observers.
+fn told(alloc: Global, task: &MockTask, said: Said, ask: Ask) -> Result<(u64, u64), Fail> {
+    let one = Arc::new(alloc, Digits(AtomicU64::new(0)))?;
+    let two = Arc::new(alloc, Digits(AtomicU64::new(0)))?;
+    let pair = (Arc::try_clone(&one)?, Arc::try_clone(&two)?);
+    let service = BayeuxService::with_observer(alloc, Saying { alloc, said }, pair)?;
+    exchange(alloc, task, &service, ask)?;
+    Ok((one.0.load(Ordering::SeqCst), two.0.load(Ordering::SeqCst)))
+}
+
 // Checks that two observers each see all events of a connection and its request, in order.
 #[test]
 fn observers_are_told(rt: HostRuntime) -> Result<(), Fail> {
@@ -133,21 +163,8 @@ fn observers_are_told(rt: HostRuntime) -> Result<(), Fail> {
         (Said::Nothing, post, 0x1_34c2),
         (Said::Items, put, 0x1_3ebd_2),
     ] {
-        let one = Arc::new(alloc, Digits(AtomicU64::new(0)))?;
-        let two = Arc::new(alloc, Digits(AtomicU64::new(0)))?;
-        let pair = (Arc::try_clone(&one)?, Arc::try_clone(&two)?);
-        let service = BayeuxService::with_observer(alloc, Saying { alloc, said }, pair)?;
-        {
-            let connection = service.clone()?;
-            let mut exchange = connection.call(ask.request(alloc)?);
-            for _ in 0..3 {
-                if task.poll(&mut exchange).is_ready() {
-                    break;
-                }
-            }
-        }
-        assert_eq!(rt; one.0.load(Ordering::SeqCst), digits);
-        assert_eq!(rt; two.0.load(Ordering::SeqCst), digits);
+        let told = told(alloc, &task, said, ask)?;
+        same(&rt, told, (digits, digits), "digits");
     }
     Ok(())
 }

@@ -5,7 +5,7 @@ use bytes::Bytes;
 use futures::Future;
 use futures::task::{Context, Poll};
 use futures::test::MockTask;
-use http::header::{ALLOW, CONTENT_LENGTH, CONTENT_TYPE, TRANSFER_ENCODING};
+use http::header::{ALLOW, CONTENT_LENGTH, CONTENT_TYPE, HeaderName, TRANSFER_ENCODING};
 use http::{Request, Response};
 use http_body::{Body, Frame};
 use std::alloc::Global;
@@ -141,11 +141,7 @@ impl Ask {
         }
     }
 
-    /// Creates the HTTP request that `self` describes.
-    ///
-    /// # Errors
-    ///
-    /// If memory runs out or a part of the request is not valid.
+    /// Creates the HTTP request that `self` describes. Fails if a part of it is not valid.
     pub fn request(self, alloc: Global) -> Result<Request<Pieces>, Fail> {
         let body = self.body(alloc)?;
         let (method, target) = self.line();
@@ -175,32 +171,20 @@ pub enum Want {
 }
 
 impl Want {
-    fn status(self) -> u16 {
+    // Returns the status, the text, and the values of `Content-Type` and `Allow`.
+    fn parts(
+        self,
+    ) -> (
+        u16,
+        &'static str,
+        Option<&'static str>,
+        Option<&'static str>,
+    ) {
         match self {
-            Want::Json(_) | Want::Script(_) => 200,
-            Want::Status(status) => status,
-        }
-    }
-
-    fn text(self) -> &'static str {
-        match self {
-            Want::Json(text) | Want::Script(text) => text,
-            Want::Status(_) => "",
-        }
-    }
-
-    fn kind(self) -> Option<&'static str> {
-        match self {
-            Want::Json(_) => Some(JSON),
-            Want::Script(_) => Some(SCRIPT),
-            Want::Status(_) => None,
-        }
-    }
-
-    fn allow(self) -> Option<&'static str> {
-        match self {
-            Want::Status(405) => Some("GET, POST"),
-            _ => None,
+            Want::Json(text) => (200, text, Some(JSON), None),
+            Want::Script(text) => (200, text, Some(SCRIPT), None),
+            Want::Status(405) => (405, "", None, Some("GET, POST")),
+            Want::Status(status) => (status, "", None, None),
         }
     }
 }
@@ -223,11 +207,8 @@ pub fn check_pending<F: Future<Output = Given>, R: Abort>(
 
 /// Checks that the next poll of `exchange` returns the response `want`.
 ///
-/// Aborts the test if the status, a header field or the body is another one.
-///
-/// # Errors
-///
-/// If the poll is pending or fails, or memory runs out.
+/// Aborts the test if the status, a header field or the body is another one. Fails if the poll is
+/// pending or fails, or memory runs out.
 pub fn check_given<F: Future<Output = Given>, R: Abort>(
     rt: &R,
     alloc: Global,
@@ -241,21 +222,36 @@ pub fn check_given<F: Future<Output = Given>, R: Abort>(
         return Err(Fail::from("it waits"));
     };
     let response = given.map_err(|_| "no memory")?;
-    same(rt, response.status().as_u16(), want.status(), want.text());
-    check_fields(rt, &response, want);
-    let mut body = Collect::new(alloc, response.into_body(), usize::MAX);
-    let Poll::Ready(Ok(text)) = task.poll(&mut body) else {
-        return Err(Fail::from("no body"));
-    };
-    same(rt, text.as_slice(), want.text().as_bytes(), want.text());
+    let (status, text, kind, allow) = want.parts();
+    same(rt, response.status().as_u16(), status, text);
+    check_field(rt, &response, CONTENT_TYPE, kind);
+    check_field(rt, &response, ALLOW, allow);
+    let body = body_of(alloc, response, task)?;
+    same(rt, body.as_slice(), text.as_bytes(), text);
     Ok(())
 }
 
-// Checks that `response` has the `Content-Type` and `Allow` that `want` expects, or lacks them.
-fn check_fields<R: Abort>(rt: &R, response: &Response<bx_pieces::Pieces<Bytes>>, want: Want) {
-    for (name, value) in [(CONTENT_TYPE, want.kind()), (ALLOW, want.allow())] {
-        let field = response.headers().get(name);
-        let found = field.map(|field| field.as_bytes());
-        same(rt, found, value.map(|text| text.as_bytes()), value);
+// Returns the body of `response`. Fails if a poll of it is pending or memory runs out.
+fn body_of(
+    alloc: Global,
+    response: Response<bx_pieces::Pieces<Bytes>>,
+    task: &MockTask,
+) -> Result<Vec<u8>, Fail> {
+    let mut body = Collect::new(alloc, response.into_body(), usize::MAX);
+    match task.poll(&mut body) {
+        Poll::Ready(Ok(text)) => Ok(text),
+        _ => Err(Fail::from("no body")),
     }
+}
+
+// Checks that `response` has the header field `name` with `value`, or lacks it if that is `None`.
+fn check_field<R: Abort>(
+    rt: &R,
+    response: &Response<bx_pieces::Pieces<Bytes>>,
+    name: HeaderName,
+    value: Option<&str>,
+) {
+    let field = response.headers().get(name);
+    let found = field.map(|field| field.as_bytes());
+    same(rt, found, value.map(|text| text.as_bytes()), value);
 }

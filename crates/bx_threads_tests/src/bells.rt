@@ -10,9 +10,10 @@ use bx_hub::{Gate, HubKind, Watch};
 use futures::task::{Doorbell, Poll, Solo, Source, Waker};
 use libc::net::{EFD_CLOEXEC, eventfd};
 use os::FromRawFd;
-use std::alloc::Global;
+use std::alloc::{AllocGlobal, Global};
 use std::os::fd::{AsRawFd, OwnedFd};
 use std::process::Abort;
+use std::random::RandomSource;
 use std::sync::atomic::{AtomicBool, Ordering};
 use std::sync::{Arc, Wait};
 use std::test::*;
@@ -207,35 +208,43 @@ fn waker_of(task: &Solo) -> Option<Waker> {
 pub fn run<
     L: HubKind<Placing: Send + Sync, Gate: Send + Sync> + Send + Sync,
     R: Threads + Wait + Clock + Abort + Send + Sync + Drop,
->(stage: &Stage<L, R>, scene: Scene) -> Result<(), Fail> {
+>(stage: &Stage<L, R>, scene: &Scene) -> Result<(), Fail> {
     let mut caller = Caller::of(stage);
     let ticket = caller.open(scene.waking)?;
-    caller.register(ticket, &scene)?;
+    caller.register(ticket, scene)?;
     let asleep = scene.task.sleep().ok_or("the task is awake")?;
-    check_beside(stage, ticket, &scene);
+    check_beside(stage, ticket, scene);
     asleep.end();
     Ok(())
+}
+
+// Runs the test's threads with a new hub, and checks what they find.
+fn check_waking<R: Threads + Wait + Clock + Abort + RandomSource + AllocGlobal + Sync>(
+    rt: &R,
+    alloc: Global,
+    waking: Waking,
+) -> Result<(), Fail> {
+    let fd = new_counter().ok_or("no counter")?;
+    let counter = fd.as_raw_fd();
+    let task = Solo::new(rt, Doorbell::from_event_fd(fd))?;
+    let flags = Arc::new(alloc, Flags::default())?;
+    let gate = Telling {
+        flags: Arc::try_clone(&flags)?,
+    };
+    let scene = Scene {
+        waking,
+        task,
+        flags,
+        counter,
+    };
+    work_in_hub(rt, alloc, 2, ByRemainder, gate, &Work::Wake(scene))
 }
 
 // Checks that a publish and a poll unlock every shard before they wake a task.
 #[test]
 fn wakes_wait_for_no_shard(rt: HostRuntime) -> Result<(), Fail> {
     for waking in [Waking::Publish, Waking::Question] {
-        let flags = Arc::new(rt.alloc(), Flags::default())?;
-        let fd = new_counter().ok_or("no counter")?;
-        let counter = fd.as_raw_fd();
-        let task = Solo::new(&rt, Doorbell::from_event_fd(fd))?;
-        let gate = Telling {
-            flags: Arc::try_clone(&flags)?,
-        };
-        let scene = Scene {
-            waking,
-            task,
-            flags,
-            counter,
-        };
-        let work = Work::<&HostRuntime>::Wake(scene);
-        work_in_hub(&rt, rt.alloc(), 2, ByRemainder, gate, work)?;
+        check_waking(&rt, rt.alloc(), waking)?;
     }
     Ok(())
 }

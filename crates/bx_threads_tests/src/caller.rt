@@ -38,10 +38,6 @@ impl<'a, L: HubKind, R: Wait + Drop> Caller<'a, L, R> {
     }
 
     /// Posts each of `bodies`.
-    ///
-    /// # Errors
-    ///
-    /// [`Refused`] if a post fails.
     pub fn post_all(&mut self, bodies: &[&str]) -> Result<(), Refused> {
         let Stage { rt, alloc, hub } = self.stage;
         post_all(rt, *alloc, hub, &mut self.pass, bodies)
@@ -58,20 +54,12 @@ impl<'a, L: HubKind, R: Wait + Drop> Caller<'a, L, R> {
     }
 
     /// Appends a tick at `moment`, and returns its place.
-    ///
-    /// # Errors
-    ///
-    /// The hub's fault.
     pub fn tick(&mut self, moment: u64) -> Result<u64, PostFault> {
         let Stage { rt, alloc, hub } = self.stage;
         tick(rt, *alloc, hub, &mut self.pass, moment)
     }
 
     /// Appends `count` ticks at moment 0.
-    ///
-    /// # Errors
-    ///
-    /// The hub's fault at the first tick that fails.
     pub fn ticks(&mut self, count: usize) -> Result<(), PostFault> {
         for _ in 0..count {
             self.tick(0)?;
@@ -81,10 +69,6 @@ impl<'a, L: HubKind, R: Wait + Drop> Caller<'a, L, R> {
 
     /// Polls for the answer under `ticket`, and returns whether it was found and its text is
     /// `wanted`.
-    ///
-    /// # Errors
-    ///
-    /// [`Refused`] if memory runs out for the answer's text.
     pub fn find(&mut self, ticket: Ticket, wanted: &str) -> Result<Found, Refused> {
         let Stage { rt, alloc, hub } = self.stage;
         find(rt, *alloc, hub, &mut self.pass, ticket, wanted)

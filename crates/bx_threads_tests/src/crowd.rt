@@ -9,6 +9,7 @@ use bx_calls::texts::{
 };
 use bx_entry::ByRemainder;
 use bx_hub::{HubKind, OpenGate};
+use bx_message::Answer;
 use std::process::Abort;
 use std::sync::Wait;
 use std::test::*;
@@ -27,8 +28,9 @@ const EVENTS: usize = 250;
 // Number of events that all three threads publish.
 const ALL_EVENTS: usize = 3 * EVENTS;
 
-// For each of two sessions, the body of a request with a connect that is answered at once.
-const CONNECTS_AT_ONCE: [&str; 2] = [CONNECT_AT_ONCE, CONNECT_OTHER_AT_ONCE];
+// For each of two sessions, the body of a request with a connect that is answered at once, and the
+// number by which its events' numbers are raised, so that they differ from the other session's.
+const SESSIONS: [(&str, usize); 2] = [(CONNECT_AT_ONCE, 0), (CONNECT_OTHER_AT_ONCE, ALL_EVENTS)];
 
 // The number of connects that a thread posts for a session in one call of `receive`.
 const CONNECTS: usize = 100;
@@ -39,8 +41,8 @@ enum Job {
     // A thread's work: it publishes `EVENTS` events. The field is the number of the first event.
     Publish(usize),
     Tick,
-    // A thread's work: it posts `CONNECTS` connects and collects the events. The field is the index
-    // of the session, 0 or 1.
+    // A thread's work: it posts `CONNECTS` connects and collects the events. The field is the
+    // session's index in `SESSIONS`.
     Receive(usize),
     Sweep,
 }
@@ -70,31 +72,24 @@ impl<L: HubKind, R: Wait + Drop> Caller<'_, L, R> {
         Some(())
     }
 
-    // Posts a connect of a session, and appends the numbers of the events that it gets to `given`.
-    //
-    // `session`: the session's index, 0 or 1. For session 1 each number is raised by `ALL_EVENTS`,
-    // so that it differs from all numbers for session 0. Returns `None` if a call fails or the
+    // Posts a request with a connect, and returns its answer. Returns `None` if a call fails or the
     // connect has no answer.
-    fn connect(&mut self, session: usize, given: &mut Vec<usize>) -> Option<()> {
-        let ticket = self.post(*CONNECTS_AT_ONCE.get(session)?).ok()??;
+    fn connect(&mut self, body: &str) -> Option<Answer> {
+        let ticket = self.post(body).ok()??;
         let Stage { rt, alloc, hub } = self.stage;
         let (polled, _unfiled) = hub.poll_answer(rt, *alloc, &mut self.pass, ticket);
-        for event in polled.ok()??.events.as_slice() {
-            let number = event.event().payload.as_str().parse::<usize>().ok()?;
-            given
-                .push(session.checked_mul(ALL_EVENTS)?.checked_add(number)?)
-                .ok()?;
-        }
-        Some(())
+        polled.ok()?
     }
 
-    // Posts `CONNECTS` connects of a session. Appends the numbers of their events to `given`.
+    // Posts `CONNECTS` connects of a session, and appends the raised numbers of their events to
+    // `given`.
     //
-    // `session`: the session's index, 0 or 1. For session 1 each number is raised by `ALL_EVENTS`.
-    // Returns `None` if a call fails or a connect has no answer.
+    // `session`: the session's index in `SESSIONS`. Returns `None` if a call fails or a connect has
+    // no answer.
     fn receive(&mut self, session: usize, given: &mut Vec<usize>) -> Option<()> {
+        let (body, raise) = *SESSIONS.get(session)?;
         for _ in 0..CONNECTS {
-            self.connect(session, given)?;
+            push_numbers(&self.connect(body)?, raise, given)?;
         }
         Some(())
     }
@@ -123,10 +118,35 @@ impl<L: HubKind, R: Wait + Drop> Caller<'_, L, R> {
     }
 }
 
-// Runs eight threads on two new sessions, and returns the numbers of all events that these get.
+// Appends the numbers of the events of `answer`, raised by `raise`, to `given`. Returns `None` if
+// an event has no number or memory runs out.
+fn push_numbers(answer: &Answer, raise: usize, given: &mut Vec<usize>) -> Option<()> {
+    for event in answer.events.as_slice() {
+        let number = event.event().payload.as_str().parse::<usize>().ok()?;
+        given.push(number.checked_add(raise)?).ok()?;
+    }
+    Some(())
+}
+
+// Runs eight threads, and returns the numbers of all events that they get.
 //
-// Each thread performs one of `JOBS`.
-// The numbers are in ascending order, with those for the second session raised by `ALL_EVENTS`.
+// Each thread performs one of `JOBS`. Returns `None` if a call fails.
+fn given_to_threads<
+    L: HubKind<Placing: Send + Sync, Gate: Send + Sync> + Send + Sync,
+    R: Threads + Wait + Send + Sync + Drop,
+>(stage: &Stage<L, R>) -> Option<Vec<usize>> {
+    let work = |index| Caller::of(stage).do_job(index);
+    let each = map_indices(&stage.rt, stage.alloc, JOBS.len(), &work);
+    let mut all = Vec::new(stage.alloc);
+    for given in each.ok()? {
+        all.extend_from_slice(given?.as_slice()).ok()?;
+    }
+    Some(all)
+}
+
+// Runs eight threads on two new sessions, and returns the numbers of all events that these get, in
+// ascending order.
+//
 // After the threads end, more connects fetch the events that are left. Returns `None` if a call
 // fails.
 fn given<
@@ -137,12 +157,7 @@ fn given<
     caller
         .post_all(&[HANDSHAKE, HANDSHAKE, SUBSCRIBE, SUBSCRIBE_OTHER])
         .ok()?;
-    let work = |index| Caller::of(stage).do_job(index);
-    let each = map_indices(&stage.rt, stage.alloc, JOBS.len(), &work);
-    let mut all = Vec::new(stage.alloc);
-    for given in each.ok()? {
-        all.extend_from_slice(given?.as_slice()).ok()?;
-    }
+    let mut all = given_to_threads(stage)?;
     caller.receive(0, &mut all)?;
     caller.receive(1, &mut all)?;
     all.sort().ok()?;
@@ -170,6 +185,5 @@ pub fn run<
 // Checks that each session gets each published event once while eight threads run.
 #[test]
 fn eight_threads(rt: HostRuntime) -> Result<(), Fail> {
-    let work = Work::<&HostRuntime>::Crowd;
-    work_in_hub(&rt, rt.alloc(), 4, ByRemainder, OpenGate, work)
+    work_in_hub(&rt, rt.alloc(), 4, ByRemainder, OpenGate, &Work::Crowd)
 }

@@ -9,7 +9,7 @@ use std::alloc::Global;
 use std::sync::Wait;
 use std::sync::atomic::{AtomicBool, Ordering};
 use std::test::*;
-use std::thread::join;
+use std::thread::{Threads, join};
 use std::time::Clock;
 
 // The length of an answer, in bytes. To compute its digest takes much longer than `TAKES` calls of
@@ -55,6 +55,18 @@ fn takes_nothing<R: Wait + Clock>(
     !has_line
 }
 
+// Logs the answer `items` in one thread while another takes lines, and returns `true` if these
+// takes find none.
+fn is_unlocked<R: Threads + Wait + Clock + Sync>(rt: &R, alloc: Global, items: &[Item]) -> bool {
+    let (log, is_logging) = (WaitingAnswerLines::new(alloc), AtomicBool::new(false));
+    let ((), was_empty) = join(
+        rt,
+        || log_answer(rt, alloc, &log, items, &is_logging),
+        || takes_nothing(rt, alloc, &log, &is_logging),
+    );
+    was_empty
+}
+
 #[test]
 fn digests_are_computed_without_a_lock(rt: HostRuntime) -> Result<(), Fail> {
     let alloc = rt.alloc();
@@ -62,13 +74,7 @@ fn digests_are_computed_without_a_lock(rt: HostRuntime) -> Result<(), Fail> {
     let items = [Item::EventItem(event(alloc, "/a", data.as_str())?)];
     let mut found: usize = 0;
     for _ in 0..TRIES {
-        let (log, is_logging) = (WaitingAnswerLines::new(alloc), AtomicBool::new(false));
-        let ((), was_empty) = join(
-            &rt,
-            || log_answer(&rt, alloc, &log, &items, &is_logging),
-            || takes_nothing(&rt, alloc, &log, &is_logging),
-        );
-        if was_empty {
+        if is_unlocked(&rt, alloc, &items) {
             found = found.saturating_add(1);
         }
         if found == WANTED {

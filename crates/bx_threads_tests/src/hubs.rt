@@ -18,11 +18,11 @@ use std::time::Clock;
 
 /// What the threads of a test do with a new hub.
 #[derive(Drop)]
-pub enum Work<'a, C: Clock + Drop> {
+pub enum Work<'a> {
     /// Eight threads publish, tick, sweep and receive.
     Crowd,
     /// Three threads: a call is stopped in a shard while two others call.
-    Locks(locks::Scene<'a, C>),
+    Locks(locks::Scene<'a>),
     /// Two threads take turns: one waits for the other's event.
     Rounds(&'a rounds::Turns),
     /// Two threads publish and tick.
@@ -36,7 +36,6 @@ fn work_in_window<
     R: Threads + Wait + Clock + Abort + Sync,
     P: Placing + Drop + Send + Sync,
     G: Gate + Drop + Send + Sync,
-    C: Clock + Drop + Sync,
 >(
     rt: &R,
     alloc: Global,
@@ -44,7 +43,7 @@ fn work_in_window<
     config: Config,
     placing: Arc<P, Global>,
     gate: G,
-    work: Work<'_, C>,
+    work: &Work<'_>,
 ) -> Result<(), Fail>
     requires book { opened.seen.book ≡ L.book }
     requires config { config ≡ L.config }
@@ -56,7 +55,7 @@ fn work_in_window<
     match work {
         Work::Crowd => crowd::run(&stage),
         Work::Locks(scene) => locks::run(&stage, scene),
-        Work::Rounds(turns) => rounds::run(&stage, turns),
+        Work::Rounds(turns) => rounds::run(&stage, *turns),
         Work::Two => threads::run(&stage),
         Work::Wake(scene) => bells::run(&stage, scene),
     }
@@ -73,17 +72,9 @@ pub fn work_in_hub<
     R: Threads + Wait + Clock + Abort + Sync,
     P: Placing + Drop + Send + Sync,
     G: Gate + Drop + Send + Sync,
-    C: Clock + Drop + Sync,
->(
-    rt: &R,
-    alloc: Global,
-    shards: usize,
-    placing: P,
-    gate: G,
-    work: Work<'_, C>,
-) -> Result<(), Fail> {
+>(rt: &R, alloc: Global, shards: usize, placing: P, gate: G, work: &Work<'_>) -> Result<(), Fail> {
     let config = config_of(shards).ok_or("no configuration")?;
     let placing = Arc::new(alloc, placing)?;
     let opened = EmptyWindow::new();
-    work_in_window::<Brand, R, P, G, C>(rt, alloc, opened, config, placing, gate, work)
+    work_in_window::<Brand, R, P, G>(rt, alloc, opened, config, placing, gate, work)
 }

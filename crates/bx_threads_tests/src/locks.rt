@@ -47,10 +47,9 @@ enum Others {
     PollAndPost,
 }
 
-// The clock, flags and counters that the threads of a test share.
-#[derive(Drop)]
-struct Flags<C: Clock + Drop> {
-    clock: C,
+// The flags and counters that the threads of a test share. At first no flag is set.
+#[derive(Default, Drop)]
+struct Flags {
     // Whether a call must stop in shard 1, after the shard has advanced.
     holds_call: AtomicBool,
     // Whether a post must stop where it places a session, while admission is locked.
@@ -75,36 +74,18 @@ struct Flags<C: Clock + Drop> {
     between: AtomicU64,
 }
 
-impl<C: Clock + Drop> Flags<C> {
-    // Creates flags that are not set, and counters at 0.
-    fn new(clock: C) -> Flags<C> {
-        Flags {
-            clock,
-            holds_call: AtomicBool::new(false),
-            holds_post: AtomicBool::new(false),
-            holds_poll: AtomicBool::new(false),
-            frees_poll: AtomicBool::new(false),
-            is_call_stopped: AtomicBool::new(false),
-            is_other_stopped: AtomicBool::new(false),
-            is_free: AtomicBool::new(false),
-            gave_up: AtomicBool::new(false),
-            asked: AtomicU64::new(0),
-            before: AtomicU64::new(0),
-            between: AtomicU64::new(0),
-        }
-    }
-
+impl Flags {
     // Waits until `flag` is set. If this wait is in vain, sets `gave_up`.
-    fn wait_for(&self, flag: &AtomicBool) {
-        if !wait_for(&self.clock, flag) {
+    fn wait_for<C: Clock>(&self, clock: &C, flag: &AtomicBool) {
+        if !wait_for(clock, flag) {
             self.gave_up.store(true, Ordering::SeqCst);
         }
     }
 
     // Stops a post or poll until it may continue.
-    fn stop_other(&self) {
+    fn stop_other<C: Clock>(&self, clock: &C) {
         self.is_other_stopped.store(true, Ordering::SeqCst);
-        self.wait_for(&self.is_free);
+        self.wait_for(clock, &self.is_free);
     }
 }
 
@@ -112,16 +93,8 @@ impl<C: Clock + Drop> Flags<C> {
 // during admission. Both also count.
 #[derive(Drop)]
 struct Holding<C: Clock + Drop> {
-    flags: Arc<Flags<C>, Global>,
-}
-
-impl<C: Clock + Drop> Holding<C> {
-    // Creates a gate or placing that obeys and sets `flags`.
-    fn of(flags: &Arc<Flags<C>, Global>) -> Result<Holding<C>, AllocError> {
-        Ok(Holding {
-            flags: Arc::try_clone(flags)?,
-        })
-    }
+    clock: C,
+    flags: Arc<Flags, Global>,
 }
 
 // Stops one call after shard 1 has advanced, until a post in another thread has locked admission,
@@ -141,10 +114,11 @@ impl<C: Clock + Drop> Gate for Holding<C> {
         }
         if shard == 1 && self.flags.holds_call.swap(false, Ordering::SeqCst) {
             self.flags.is_call_stopped.store(true, Ordering::SeqCst);
-            self.flags.wait_for(&self.flags.is_other_stopped);
+            self.flags
+                .wait_for(&self.clock, &self.flags.is_other_stopped);
         }
         if shard == 0 && self.flags.holds_poll.swap(false, Ordering::SeqCst) {
-            self.flags.stop_other();
+            self.flags.stop_other(&self.clock);
         }
     }
 }
@@ -159,7 +133,7 @@ impl<C: Clock + Drop> Placing for Holding<C> {
     fn place(&self, number: u64, shards: usize) -> usize {
         self.flags.asked.fetch_add(1, Ordering::SeqCst);
         if self.flags.holds_post.swap(false, Ordering::SeqCst) {
-            self.flags.stop_other();
+            self.flags.stop_other(&self.clock);
         }
         if self.flags.frees_poll.swap(false, Ordering::SeqCst) {
             self.flags.is_free.store(true, Ordering::SeqCst);
@@ -168,7 +142,7 @@ impl<C: Clock + Drop> Placing for Holding<C> {
     }
 }
 
-impl<L: HubKind, R: Wait + Drop> Caller<'_, L, R> {
+impl<L: HubKind, R: Wait + Clock + Drop> Caller<'_, L, R> {
     // Polls for an answer at place 0 of `shard`, and returns `true` if the poll succeeds.
     fn polls(&mut self, shard: usize) -> bool {
         let ticket = Ticket { place: 0, shard };
@@ -180,7 +154,7 @@ impl<L: HubKind, R: Wait + Drop> Caller<'_, L, R> {
     // Makes `call`, which the gate stops in shard 1, and returns `true` if it succeeds.
     //
     // Before a post, posts `AHEAD` pings, which are not stopped.
-    fn call<C: Clock + Drop>(&mut self, flags: &Flags<C>, call: Call) -> bool {
+    fn call(&mut self, flags: &Flags, call: Call) -> bool {
         if matches!(call, Call::Post) && self.post_all(&[PING; AHEAD]).is_err() {
             return false;
         }
@@ -196,8 +170,8 @@ impl<L: HubKind, R: Wait + Drop> Caller<'_, L, R> {
     // admitted.
     //
     // The placing stops this post while admission is locked.
-    fn connect_once_stopped<C: Clock + Drop>(&mut self, flags: &Flags<C>) -> bool {
-        flags.wait_for(&flags.is_call_stopped);
+    fn connect_once_stopped(&mut self, flags: &Flags) -> bool {
+        flags.wait_for(&self.stage.rt, &flags.is_call_stopped);
         flags.holds_post.store(true, Ordering::SeqCst);
         self.post(CONNECT).is_ok()
     }
@@ -207,13 +181,13 @@ impl<L: HubKind, R: Wait + Drop> Caller<'_, L, R> {
     //
     // The call that was stopped in shard 1 can continue meanwhile. Returns `true` if no answers
     // were dropped.
-    fn sweep_meanwhile<C: Clock + Drop>(&mut self, flags: &Flags<C>) -> bool {
-        flags.wait_for(&flags.is_other_stopped);
+    fn sweep_meanwhile(&mut self, flags: &Flags) -> bool {
         let Stage { rt, hub, .. } = self.stage;
+        flags.wait_for(rt, &flags.is_other_stopped);
         let mut swept: usize = 0;
         for _ in 0..SWEEPS {
             swept = swept.saturating_add(hub.sweep(rt, 0).dropped());
-            thread::sleep(&flags.clock, Duration::from_millis(1));
+            thread::sleep(rt, Duration::from_millis(1));
         }
         flags.is_free.store(true, Ordering::SeqCst);
         swept == 0
@@ -223,8 +197,8 @@ impl<L: HubKind, R: Wait + Drop> Caller<'_, L, R> {
     // if the poll succeeds.
     //
     // The gate stops this poll while shard 0 is locked.
-    fn poll_once_stopped<C: Clock + Drop>(&mut self, flags: &Flags<C>) -> bool {
-        flags.wait_for(&flags.is_call_stopped);
+    fn poll_once_stopped(&mut self, flags: &Flags) -> bool {
+        flags.wait_for(&self.stage.rt, &flags.is_call_stopped);
         flags.holds_poll.store(true, Ordering::SeqCst);
         self.polls(0)
     }
@@ -233,9 +207,9 @@ impl<L: HubKind, R: Wait + Drop> Caller<'_, L, R> {
     //
     // The call that was stopped in shard 1 can continue before the post, until it waits for shard
     // 0. When the post has locked admission, it lets the poll continue.
-    fn connect_later<C: Clock + Drop>(&mut self, flags: &Flags<C>) -> bool {
-        flags.wait_for(&flags.is_other_stopped);
-        thread::sleep(&flags.clock, Duration::from_millis(SWEEPS as u64));
+    fn connect_later(&mut self, flags: &Flags) -> bool {
+        flags.wait_for(&self.stage.rt, &flags.is_other_stopped);
+        thread::sleep(&self.stage.rt, Duration::from_millis(SWEEPS as u64));
         flags.frees_poll.store(true, Ordering::SeqCst);
         self.post(CONNECT).is_ok()
     }
@@ -244,9 +218,8 @@ impl<L: HubKind, R: Wait + Drop> Caller<'_, L, R> {
 // Runs `others` in two threads, and returns whether the calls of each succeed.
 fn both<
     L: HubKind<Placing: Send + Sync, Gate: Send + Sync> + Send + Sync,
-    C: Clock + Drop + Sync,
-    R: Threads + Wait + Send + Sync + Drop,
->(stage: &Stage<L, R>, flags: &Flags<C>, others: Others) -> (bool, bool) {
+    R: Threads + Wait + Clock + Send + Sync + Drop,
+>(stage: &Stage<L, R>, flags: &Flags, others: Others) -> (bool, bool) {
     match others {
         Others::PostAndSweeps => join(
             &stage.rt,
@@ -263,8 +236,8 @@ fn both<
 
 /// What three threads do, and the flags that they share.
 #[derive(Drop)]
-pub struct Scene<'a, C: Clock + Drop> {
-    flags: &'a Flags<C>,
+pub struct Scene<'a> {
+    flags: &'a Flags,
     call: Call,
     others: Others,
 }
@@ -281,15 +254,10 @@ pub struct Scene<'a, C: Clock + Drop> {
 /// [`Fail`] if the session cannot be opened.
 pub fn run<
     L: HubKind<Placing: Send + Sync, Gate: Send + Sync> + Send + Sync,
-    C: Clock + Drop + Sync,
-    R: Threads + Wait + Abort + Send + Sync + Drop,
->(stage: &Stage<L, R>, scene: Scene<'_, C>) -> Result<(), Fail> {
-    let Scene {
-        flags,
-        call,
-        others,
-    } = scene;
-    let rt = &stage.rt;
+    R: Threads + Wait + Clock + Abort + Send + Sync + Drop,
+>(stage: &Stage<L, R>, scene: &Scene<'_>) -> Result<(), Fail> {
+    let (rt, flags) = (&stage.rt, scene.flags);
+    let (call, others) = (scene.call, scene.others);
     Caller::of(stage).post(HANDSHAKE)?;
     // Each shard places the new session when it applies the handshake.
     let between = flags.between.load(Ordering::SeqCst);
@@ -301,47 +269,52 @@ pub fn run<
     );
     same(rt, (called, one, other), (true, true, true), "each call");
     let was_stopped = flags.is_other_stopped.load(Ordering::SeqCst);
-    same(
-        rt,
-        was_stopped,
-        true,
-        "the post or poll was stopped under its lock",
-    );
+    same(rt, was_stopped, true, "stopped under the lock");
     let in_vain = flags.gave_up.load(Ordering::SeqCst);
     same(rt, in_vain, false, "waited in vain");
     Ok(())
 }
 
-// Runs a case of `others` for each of `calls`, each with a new hub.
-fn check_cases<R: Threads + Wait + Clock + Abort + Sync>(
+// Creates a gate or placing that obeys and sets `flags`.
+fn obeying<'a, R: Clock>(
+    clock: &'a R,
+    flags: &Arc<Flags, Global>,
+) -> Result<Holding<&'a R>, AllocError> {
+    let flags = Arc::try_clone(flags)?;
+    Ok(Holding { clock, flags })
+}
+
+// Runs `others` while `call` is stopped, with a new hub.
+fn check_case<R: Threads + Wait + Clock + Abort + Sync>(
     rt: &R,
     alloc: Global,
-    calls: &[Call],
+    call: Call,
     others: Others,
 ) -> Result<(), Fail> {
-    for call in calls {
-        let flags = Arc::new(alloc, Flags::new(rt))?;
-        let (placing, gate) = (Holding::of(&flags)?, Holding::of(&flags)?);
-        let scene = Scene {
-            flags: &*flags,
-            call: *call,
-            others,
-        };
-        work_in_hub(rt, alloc, 2, placing, gate, Work::Locks(scene))?;
-    }
-    Ok(())
+    let flags = Arc::new(alloc, Flags::default())?;
+    let (placing, gate) = (obeying(rt, &flags)?, obeying(rt, &flags)?);
+    let scene = Scene {
+        flags: &*flags,
+        call,
+        others,
+    };
+    work_in_hub(rt, alloc, 2, placing, gate, &Work::Locks(scene))
 }
 
 // Checks that calls unlock shards before they wait for admission, and that gates enclose advances.
 #[test]
 fn calls_wait_without_a_shard(rt: HostRuntime) -> Result<(), Fail> {
-    let calls = [Call::Tick, Call::Post, Call::Question];
-    check_cases(&rt, rt.alloc(), &calls, Others::PostAndSweeps)
+    for call in [Call::Tick, Call::Post, Call::Question] {
+        check_case(&rt, rt.alloc(), call, Others::PostAndSweeps)?;
+    }
+    Ok(())
 }
 
 // Checks that calls that trim a window with room do not wait for a shard while admission is locked.
 #[test]
 fn trims_wait_without_admission(rt: HostRuntime) -> Result<(), Fail> {
-    let calls = [Call::Tick, Call::Post];
-    check_cases(&rt, rt.alloc(), &calls, Others::PollAndPost)
+    for call in [Call::Tick, Call::Post] {
+        check_case(&rt, rt.alloc(), call, Others::PollAndPost)?;
+    }
+    Ok(())
 }

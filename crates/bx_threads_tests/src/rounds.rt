@@ -284,6 +284,12 @@ fn each_waker_wakes_once(rt: HostRuntime) -> Result<(), Fail> {
         round: AtomicU64::new(0),
     };
     turns.task.add()?.schedule();
-    let work = Work::<&HostRuntime>::Rounds(&turns);
-    work_in_hub(&rt, rt.alloc(), 2, ByRemainder, OpenGate, work)
+    work_in_hub(
+        &rt,
+        rt.alloc(),
+        2,
+        ByRemainder,
+        OpenGate,
+        &Work::Rounds(&turns),
+    )
 }

@@ -63,6 +63,5 @@ pub fn run<
 // Checks that a poll with the longer of two threads' passes finds the event of one of them, once.
 #[test]
 fn two_threads(rt: HostRuntime) -> Result<(), Fail> {
-    let work = Work::<&HostRuntime>::Two;
-    work_in_hub(&rt, rt.alloc(), 2, ByRemainder, OpenGate, work)
+    work_in_hub(&rt, rt.alloc(), 2, ByRemainder, OpenGate, &Work::Two)
 }
