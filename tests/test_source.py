@@ -140,8 +140,8 @@ def has_failed(pattern: str) -> bool:
     return not words & {"Ok", "Some"} and bool(words & {"Err", *LACKS, *VARIANTS})
 
 
-def block_after(head: str, outer: Block, before: str) -> Block:
-    """Returns the block in braces that follows `head`. `before`: the condition of the block before it, for `else`."""
+def block_after(head: str, outer: Block) -> Block:
+    """Returns the block in braces that follows `head`."""
     if re.search(r"\b(?:use|struct|enum)\b", head):
         return Block(kind="types")
     if re.search(r"\bmatch\b", head):
@@ -153,7 +153,7 @@ def block_after(head: str, outer: Block, before: str) -> Block:
     if refuted := re.search(r"\blet\b([^=]*)=.*\belse\s*$", head, re.DOTALL):
         return Block(brief(refuted[0]), outer.is_failed or "Ok" in refuted[1] and "Some" not in refuted[1])
     if head.split()[-1:] == ["else"]:
-        return Block(f"else of {before}", outer.is_failed or before.startswith("if let Ok("))
+        return Block("else", outer.is_failed)
     if branch := re.search(r".*\b((?:if|while)\b(?:\s+let\b([^=]*))?.*)", head, re.DOTALL):
         is_error = branch[1].rstrip().endswith(".is_err()") and not re.search(r"\|\||&&", branch[1])
         return Block(brief(branch[1]), outer.is_failed or (has_failed(branch[2]) if branch[2] else is_error))
@@ -162,7 +162,7 @@ def block_after(head: str, outer: Block, before: str) -> Block:
 
 def faults_made(text: str) -> Iterator[tuple[int, str, str]]:
     """Yields each fault that is made although no call failed: its index, its name, and the condition under which it is made."""
-    block, begin, before = Block(), 0, ""
+    block, begin = Block(), 0
     # The blocks around `block`, and where the heads of their next ones begin.
     outside: list[tuple[Block, int]] = []
     for it in SIGN.finditer(text):
@@ -174,7 +174,7 @@ def faults_made(text: str) -> Iterator[tuple[int, str, str]]:
             begin = it.end()
         elif sign == "{":
             outside.append((block, begin))
-            block, begin = block_after(head, block, before), it.end()
+            block, begin = block_after(head, block), it.end()
         elif sign == "=>" and block.kind == "match":
             outside.append((block, begin))
             block, begin = Block(f"{brief(head)}=>", block.is_failed or has_failed(head), "arm"), it.end()
@@ -184,7 +184,6 @@ def faults_made(text: str) -> Iterator[tuple[int, str, str]]:
             if sign == ",":
                 begin = it.end() if block.kind == "match" else begin
                 continue
-            before = block.why
             block, begin = outside.pop()
             if sign == "}" and block.kind != "match":
                 # A block in braces may be a whole arm.
@@ -199,9 +198,8 @@ def faults_made(text: str) -> Iterator[tuple[int, str, str]]:
 
 def has_comment(path: str, name: str) -> bool:
     """Returns `True` if a comment is above the constant `name` of a file."""
-    before = re.split(rf"^.*\bconst {name}: ", (TOP / "crates" / path).read_text(encoding="utf-8"), maxsplit=1, flags=re.MULTILINE)[0]
-    lines = [it.strip() for it in before.splitlines() if not it.strip().startswith("#[")]
-    return lines[-1].startswith("//")
+    text = (TOP / "crates" / path).read_text(encoding="utf-8")
+    return re.search(rf"^ *//.*\n(?: *#\[.*\n)*.*\bconst {name}: ", text, re.MULTILINE) is not None
 
 
 def test_large_numbers_are_named_constants(products):
