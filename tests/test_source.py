@@ -5,13 +5,12 @@ memory for more than 8,192 events. These checks refuse such a size, and such a r
 """
 import re
 from collections.abc import Iterator
+from typing import NamedTuple
 
 import pytest
 
-import rattle
 import repository
 from base import TOP
-from rattle import Group, Item, value_of
 
 # One process reads the sources.
 pytestmark = pytest.mark.xdist_group("source")
@@ -75,22 +74,31 @@ FAULTS = (
     ("the end of a connection", {"bayeux_load/src/link.rt": ("Ok(0)=>",)}),
 )
 
-# Signs between two numbers whose value is a number, signs that shift, and the greatest values of types.
-OPERATIONS = {"+": int.__add__, "*": int.__mul__, "<<": int.__lshift__}
-SHIFTS = ("<<", ">>", "<<=", ">>=")
-NARROW = ("u8", "u16", "u32", "i8", "i16", "i32")
+# What is not read: comments and texts; and clauses, ghost code and modules of tests, whose lines after the first are indented more.
+TEXT = re.compile(r"""//[^\n]*|\bb?r(#*)".*?"\1|"(?:\\.|[^"\\])*"|'(?:\\u\{\w+\}|\\.[\da-fA-F]*|[^'\\])'""", re.DOTALL)
+CLAUSE = r"(?:(?:pub(?:\(crate\))? )?ghost|requires|ensures|invariant|decreases|#\[cfg\(test\)\]\n *mod)\b"
+UNREAD = re.compile(rf"^( *){CLAUSE}.*(?:\n*\n\1[ }}].*)*", re.MULTILINE)
+# A constant, and a number with those that it is added to, multiplied with or shifted by.
+CONSTANT = re.compile(r"^ *(?:pub(?:\(\w+\))? )?const (\w+): .*?;$", re.MULTILINE | re.DOTALL)
+NUMBER = re.compile(r"((?:<<|>>)=? )?(?<!\w)(?<![^.]\.)(\d\w*)((?: (?:\+|\*|<<) \d\w*)*(?:\.pow)?)|\b[iu](?:8|16|32)::MAX")
 # Calls that leak memory.
-LEAK = re.compile(r"\b(?:ManuallyDrop|leak|into_raw|mem :: (?:\{[^}]*)?\bforget)\b")
-# Words whose heads have only types and patterns.
-DECLARATIONS = ("use", "impl", "fn", "struct", "enum", "type")
+LEAK = re.compile(r"\b(?:ManuallyDrop|leak|into_raw|mem::(?:\{[^}]*)?\bforget)\b")
+# The signs and faults of expressions. Paths through a fault, types with one, and comparisons are none.
+FAULT = rf"(?<![=!]= )(?<![\w:])(?:\w+::)*(?:{'|'.join(LACKS)}|(?:\w*Fault|Next)::(?:{'|'.join(VARIANTS)}))\b(?!::|>)"
+SIGN = re.compile(rf"[(\[{{}}\])]|[;,]|=>|{FAULT}")
+# The heads of types and of patterns.
+DECLARATION = re.compile(r"\b(?:use|impl|fn|struct|enum|type)\b|\b(?:let|const)\b[^=]*$")
 
 
 @pytest.fixture(scope="module", name="products")
-def read_products() -> dict[str, list[Item]]:
-    """The items of each source of a product, by its path from `crates/` on."""
+def read_products() -> dict[str, str]:
+    """What is read of each source of a product, in its lines, by the source's path from `crates/` on."""
     crates = [it for it in repository.dependencies() if not NO_PRODUCTS.fullmatch(it)]
     paths = [str(it.relative_to(TOP / "crates")) for crate in crates for it in TOP.glob(f"crates/{crate}/src/**/*.rt")]
-    return {it: rattle.read(f"{TOP}/crates/{it}") for it in sorted(paths) if not OF_TESTS.search(it)}
+    found = {it: (TOP / "crates" / it).read_text(encoding="utf-8") for it in sorted(paths) if not OF_TESTS.search(it)}
+    for unread in (TEXT, UNREAD):
+        found = {path: unread.sub(lambda it: "\n" * it[0].count("\n"), text) for path, text in found.items()}
+    return found
 
 
 def rows(table: tuple) -> set[tuple[str, str]]:
@@ -98,151 +106,127 @@ def rows(table: tuple) -> set[tuple[str, str]]:
     return {(path, it) for _, files in table for path, found in files.items() for it in (found.split() if isinstance(found, str) else found)}
 
 
-def brief(items: list[Item]) -> str:
-    """Returns the texts of `items`, with spaces only between words."""
-    return re.sub(r"(?<!\w) | (?!\w)", "", rattle.flat(items))
+def brief(text: str) -> str:
+    """Returns `text` with spaces only between words."""
+    return re.sub(r"(?<!\w) | (?!\w)", "", " ".join(text.split()))
 
 
-def large_number(items: list[Item], at: int) -> str:
-    """Returns the number at `at` if it is large, with the sum, product or shift that it ends, or "" if it is small."""
-    begin, value = at, value_of(items[at])
-    is_shift = value >= BITS and at > 0 and items[at - 1].text in SHIFTS
-    is_power = [it.text for it in items[at + 1 : at + 3]] == [".", "pow"]
-    while begin >= 2 and items[begin - 1].text in OPERATIONS and items[begin - 2].kind == "number":
-        begin -= 2
-        value = OPERATIONS[items[begin + 1].text](value_of(items[begin]), value)
-    return brief(items[at - 1 if is_shift and begin == at else begin : at + 1]) if value > SMALL or is_shift or is_power else ""
+def place(path: str, text: str, at: int) -> str:
+    """Returns the path and the number of the line with the index `at`."""
+    return f"crates/{path}:{text.count(chr(10), 0, at) + 1}"
 
 
-def large_numbers(items: list[Item], name: str = "") -> Iterator[tuple[int, str, str]]:
-    """Yields each large number in `items`: its line, its text, and the constant that it belongs to, or ""."""
-    outer = name
-    for at, it in enumerate(items):
-        if it.text == "const" and items[at + 1 : at + 3][-1].text == ":":
-            name = items[at + 1].text
-        elif it.text == ";":
-            name = outer
-        elif isinstance(it, Group):
-            yield from large_numbers(it.items, name)
-        elif it.kind == "number" and large_number(items, at):
-            yield it.line, large_number(items, at), name
-        elif it.text == "MAX" and items[at - 2].text in NARROW:
-            yield it.line, f"{items[at - 2].text}::MAX", name
+def large_numbers(text: str) -> Iterator[tuple[int, str]]:
+    """Yields each large number, and each that is made of others, with the index where it begins."""
+    for it in NUMBER.finditer(text):
+        shift, number, others = it.groups()
+        value = int(re.sub(r"[iu](?:\d+|size)$|_", "", number), 0) if number else 0
+        if not number or others or value > SMALL or shift and value >= BITS:
+            yield it.start(), brief(it[0] if not shift or value >= BITS else number + others)
 
 
-def is_fault(items: list[Item], at: int) -> bool:
-    """Returns `True` if an expression names a fault at `at`. Paths through `AllocError` and comparisons are none."""
-    before = at
-    while before >= 2 and items[before - 1].text == "::":
-        before -= 2
-    after = items[at + 1].text if at + 1 < len(items) else ""
-    if after in ("::", ">") or before > 0 and items[before - 1].text in ("==", "!="):
-        return False
-    return items[at].text in LACKS or items[at].text in VARIANTS and re.fullmatch(r"\w*Fault|Next", items[max(at - 2, 0)].text) is not None
+class Block(NamedTuple):
+    """What is between two brackets, or an arm of a match. `why`: the condition under which it runs. `is_failed`: a call failed then."""
+
+    why: str = ""
+    is_failed: bool = False
+    # "code", "types", "match" or "arm".
+    kind: str = "code"
 
 
-def has_failed(pattern: list[Item]) -> bool:
+def has_failed(pattern: str) -> bool:
     """Returns `True` if only results of calls that failed, and flags that are set, have this pattern."""
-    words = set(rattle.flat(pattern).split())
+    words = set(re.findall(r"\w+", pattern))
     return not words & {"Ok", "Some"} and bool(words & {"Err", *LACKS, *VARIANTS})
 
 
-def split(items: list[Item], sign: str) -> tuple[list[Item], list[Item]]:
-    """Returns what is before the first `sign`, and what follows."""
-    at = next((at for at, it in enumerate(items) if it.text == sign), len(items))
-    return items[:at], items[at + 1 :]
+def block_after(head: str, outer: Block) -> Block:
+    """Returns the block in braces that follows `head`."""
+    if re.search(r"\b(?:use|struct|enum)\b", head):
+        return Block(kind="types")
+    if re.search(r"\bmatch\b", head):
+        return outer._replace(kind="match")
+    if name := re.search(r"\bfn (\w+)", head):
+        return Block(f"fn {name[1]}", outer.is_failed)
+    if re.search(r"\bimpl\b", head):
+        return Block("", re.search(r"\bimpl(?:<.*>)? From<", head) is not None)
+    if refuted := re.search(r"\blet\b([^=]*)=.*\belse\s*$", head, re.DOTALL):
+        return Block(brief(refuted[0]), outer.is_failed or "Ok" in refuted[1] and "Some" not in refuted[1])
+    if head.split()[-1:] == ["else"]:
+        return Block("else", outer.is_failed)
+    if branch := re.search(r".*\b((?:if|while)\b(?:\s+let\b([^=]*))?.*)", head, re.DOTALL):
+        is_error = branch[1].rstrip().endswith(".is_err()") and not re.search(r"\|\||&&", branch[1])
+        return Block(brief(branch[1]), outer.is_failed or (has_failed(branch[2]) if branch[2] else is_error))
+    return outer._replace(kind="code")
 
 
-def arms(items: list[Item]) -> Iterator[tuple[list[Item], list[Item]]]:
-    """Yields the pattern and the value of each arm of a match."""
-    while items:
-        pattern, items = split(items, "=>")
-        if items and items[0].text == "{":
-            value, items = items[:1], items[2 if len(items) > 1 and items[1].text == "," else 1 :]
-        else:
-            value, items = split(items, ",")
-        yield pattern, value
-
-
-def branch(head: list[Item], before: str) -> tuple[str, bool]:
-    """Returns the condition for the block after `head`, and whether a call failed then. `before`: the last condition, for `else`."""
-    words = [it.text for it in head]
-    if words[-1:] == ["else"] and "let" in words:
-        pattern = head[words.index("let") :]
-        words = rattle.flat(split(pattern, "=")[0]).split()
-        return brief(pattern), "Ok" in words and "Some" not in words
-    if words[-1:] == ["else"]:
-        return f"else of {before}", before.startswith("if let Ok(")
-    at = max((at for at, it in enumerate(words) if it in ("if", "while")), default=None)
-    if at is None:
-        return "", False
-    if words[at + 1 : at + 2] == ["let"]:
-        return brief(head[at:]), has_failed(split(head[at:], "=")[0])
-    return brief(head[at:]), brief(head[at:]).endswith(".is_err()") and not {"||", "&&"} & set(words)
-
-
-def faults_made(items: list[Item], why: str = "", is_failed: bool = False) -> Iterator[tuple[int, str, str]]:
-    """Yields each fault that is made although no call failed: its line, its name, and the condition for which it is made."""
-    begin, before = 0, ""
-    for at, it in enumerate(items):
-        head = items[begin:at]
-        words = [other.text for other in head]
-        is_declared = any(word in DECLARATIONS for word in words) or any(word in words for word in ("let", "const")) and "=" not in words
-        if isinstance(it, Group) and it.text == "{":
-            begin = at + 1
-            if any(word in ("use", "struct", "enum") for word in words):
+def faults_made(text: str) -> Iterator[tuple[int, str, str]]:
+    """Yields each fault that is made although no call failed: its index, its name, and the condition under which it is made."""
+    block, begin = Block(), 0
+    # The blocks around `block`, and where the heads of their next ones begin.
+    outside: list[tuple[Block, int]] = []
+    for it in SIGN.finditer(text):
+        sign, head = it[0], text[begin : it.start()]
+        is_type = block.kind in ("types", "match") or DECLARATION.search(head) is not None
+        if sign in ("(", "[") or sign == "{" and block.kind == "match":
+            outside.append((block, begin))
+            block = Block(block.why, block.is_failed or head.endswith("map_err"), "types" if is_type else "code")
+            begin = it.end()
+        elif sign == "{":
+            outside.append((block, begin))
+            block, begin = block_after(head, block), it.end()
+        elif sign == "=>" and block.kind == "match":
+            outside.append((block, begin))
+            block, begin = Block(f"{brief(head)}=>", block.is_failed or has_failed(head), "arm"), it.end()
+        elif sign in (")", "]", "}", ","):
+            if block.kind == "arm":
+                block, begin = outside.pop()
+            if sign == ",":
+                begin = it.end() if block.kind == "match" else begin
                 continue
-            if "match" in words:
-                for pattern, value in arms(it.items):
-                    yield from faults_made(value, f"{brief(pattern)}=>", is_failed or has_failed(pattern))
-                continue
-            if "fn" in words:
-                inner, fails = f"fn {words[words.index('fn') + 1]}", False
-            elif "impl" in words:
-                inner, fails = "", re.search(r"\bimpl(<.*>)?\s?From<", brief(head)) is not None
-            else:
-                inner, fails = branch(head, before)
-                before = inner
-            yield from faults_made(it.items, inner or why, is_failed or fails)
-        elif it.text == ";":
-            begin, before = at + 1, ""
-        elif isinstance(it, Group) and not is_declared:
-            yield from faults_made(it.items, why, is_failed or words[-1:] == ["map_err"])
-        elif not is_failed and not is_declared and is_fault(items, at):
-            yield it.line, it.text, why
+            block, begin = outside.pop()
+            if sign == "}" and block.kind != "match":
+                # A block in braces may be a whole arm.
+                if block.kind == "arm" and text[begin : it.start()].lstrip().startswith("{"):
+                    block, begin = outside.pop()
+                begin = it.end()
+        elif sign == ";":
+            begin = it.end()
+        elif sign != "=>" and not block.is_failed and not is_type:
+            yield it.start(), sign.rpartition("::")[2], block.why
 
 
 def has_comment(path: str, name: str) -> bool:
     """Returns `True` if a comment is above the constant `name` of a file."""
-    with open(f"{TOP}/crates/{path}", encoding="utf-8") as file:
-        before = re.split(rf"^.*\bconst {name}: ", file.read(), maxsplit=1, flags=re.MULTILINE)[0]
-    lines = [it.strip() for it in before.splitlines() if not it.strip().startswith("#[")]
-    return lines[-1].startswith("//")
+    text = (TOP / "crates" / path).read_text(encoding="utf-8")
+    return re.search(rf"^ *//.*\n(?: *#\[.*\n)*.*\bconst {name}: ", text, re.MULTILINE) is not None
 
 
 def test_large_numbers_are_named_constants(products):
     unused, wrong = rows(NUMBERS), set()
-    for path, items in products.items():
-        for line, number, constant in large_numbers(items):
+    for path, text in products.items():
+        constants = list(CONSTANT.finditer(text))
+        for at, number in large_numbers(text):
             unused.discard((path, number))
+            constant = next((it[1] for it in constants if it.start() < at < it.end()), "")
             if constant and not has_comment(path, constant):
                 wrong.add(f"crates/{path}: {constant}: add a comment that says why it has this value")
             elif not constant and (path, number) not in rows(NUMBERS):
-                wrong.add(f"crates/{path}:{line}: {number}: make it a constant, with a comment that says why it has this value")
+                wrong.add(f"{place(path, text, at)}: {number}: make it a constant, with a comment that says why it has this value")
     assert not wrong, "\n".join(sorted(wrong))
     assert not unused, "the table has rows that are not needed"
 
 
 def test_faults_come_from_calls_that_failed(products):
     unused, wrong = rows(FAULTS), []
-    for path, items in products.items():
-        for line, fault, condition in faults_made(items):
+    for path, text in products.items():
+        for at, fault, condition in faults_made(text):
             unused.discard((path, condition))
             if (path, condition) not in rows(FAULTS):
-                wrong.append(f"crates/{path}:{line}: {fault} after `{condition}`: return the error of a call that failed, or add a row to FAULTS")
+                wrong.append(f"{place(path, text, at)}: {fault} after `{condition}`: return the error of a call that failed, or add a row to FAULTS")
     assert not wrong, "\n".join(wrong)
     assert not unused, "the table has rows that are not needed"
 
 
 def test_nothing_leaks(products):
-    assert [(path, it[0]) for path, items in products.items() for it in LEAK.finditer(rattle.flat(items))] == []
+    assert [(path, it[0]) for path, text in products.items() for it in LEAK.finditer(text)] == []

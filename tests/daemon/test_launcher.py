@@ -30,6 +30,7 @@ def launch(daemon, program, clock, tmp_path):
     """
     folder = tmp_path / "bayeuxd run * "
     folder.mkdir()
+    (tmp_path / "files").mkdir()
     (folder / "bayeuxd").symlink_to(os.path.abspath(program))
 
     def start(*flags, before=(), waits=True, **variables):
@@ -58,16 +59,19 @@ def expect_graceful_end(server, clock, send):
     assert any("recording complete" in it for it in server.logged())
 
 
-@pytest.mark.parametrize("send", [os.kill, os.killpg], ids=["process", "group"])
+def kill_twice(process_id, number):
+    """Sends a signal, and then SIGINT, which changes nothing."""
+    for it in (number, signal.SIGINT):
+        os.kill(process_id, it)
+
+
+@pytest.mark.parametrize("send", [os.kill, os.killpg, kill_twice], ids=["process", "group", "twice"])
 @pytest.mark.parametrize("number", SIGNALS, ids=lambda it: it.name)
-def test_signal_ends_the_daemon_gracefully(launch, clock, number, send):
-    server = launch()
+def test_signal_ends_the_daemon_gracefully(launch, clock, number, send, tmp_path):
+    """No file of bayeuxd-run is left once the daemon runs."""
+    server = launch(TMPDIR=str(tmp_path / "files"))
+    assert not list((tmp_path / "files").iterdir())
     expect_graceful_end(server, clock, lambda: send(server.process.pid, number))
-
-
-def test_second_signal_changes_nothing(launch, clock):
-    server = launch()
-    expect_graceful_end(server, clock, lambda: [server.process.send_signal(it) for it in (signal.SIGTERM, signal.SIGINT)])
 
 
 @pytest.mark.parametrize("shell", SHELLS, ids=lambda it: it[0])
@@ -76,14 +80,6 @@ def test_shells(launch, clock, shell):
     if not shutil.which(shell[0]):
         pytest.skip(f"there is no {shell[0]}")
     server = launch(before=shell, TMPDIR="/proc")
-    expect_graceful_end(server, clock, server.process.terminate)
-
-
-def test_no_file_is_left(launch, clock, tmp_path):
-    folder = tmp_path / "files"
-    folder.mkdir()
-    server = launch(TMPDIR=str(folder))
-    assert not list(folder.iterdir())
     expect_graceful_end(server, clock, server.process.terminate)
 
 

@@ -3,7 +3,6 @@ import datetime
 import json
 import os
 import re
-import subprocess
 import tempfile
 import time
 
@@ -12,7 +11,6 @@ import pytest
 from base import TIMEOUT_SECONDS
 from daemon import HANDSHAKE, check_serves, expect_error, expect_status, expect_success, open_session, poll, post, subscribe
 from documented import expect_documented
-from metrics import scrape
 from runs import ANYWHERE, CANNOT_LISTEN, LOG_TIME, match, run, without_times
 
 # Flags with which a daemon logs a warning, and its log: the priority of each line, and its text up to a value that differs.
@@ -53,24 +51,22 @@ def expect_times(texts, before):
     assert all(before - 0.001 < it < time.time() for it in times)
 
 
-def test_line_begins_with_its_time(log_of):
-    before = time.time()
-    lines = log_of(*WARNED)
-    assert match(lines, [f"({LOG_TIME}) {re.escape(it)}.*" for _, it in LINES]), lines
-    expect_times(lines, before)
-
-
 def test_line_begins_with_its_priority_in_the_journal(log_of):
+    """Unless it is an object of JSON."""
     lines = log_of(*WARNED, journal="{}:{}")
     assert match(lines, [f"<{priority}>{re.escape(it)}.*" for priority, it in LINES]), lines
     lines = log_of(*ELSEWHERE, journal="{}:{}")[1:]
     assert match(lines, [r"<3>\[ERROR bayeuxd\] cannot listen address=192\.0\.2\.1:0 error=\".* .*\"", CANNOT_LISTEN]), lines
+    for line, (_, text) in zip(log_of(*WARNED, "--log", "json", journal="{}:{}"), LINES, strict=True):
+        assert line.startswith("{") and json.loads(line)["event"] in text
 
 
-@pytest.mark.parametrize("journal", ["{1}:{0}", "{}:{}0", "{}:{} ", "1{}:{}", "0:{1}", "{0}:0", "0:0", ""])
+@pytest.mark.parametrize("journal", [None, "{1}:{0}", "{}:{}0", "{}:{} ", "1{}:{}", "0:{1}", "{0}:0", "0:0", ""])
 def test_line_begins_with_its_time_if_the_journal_is_another_file(log_of, journal):
+    before = time.time()
     lines = log_of(*WARNED, journal=journal)
     assert match(lines, [f"{LOG_TIME} {re.escape(it)}.*" for _, it in LINES]), lines
+    expect_times(lines, before)
 
 
 def test_log_of_json_has_the_keys_and_values_of_a_text(log_of, tmp_path):
@@ -93,11 +89,6 @@ def test_log_of_json_has_the_keys_and_values_of_a_text(log_of, tmp_path):
         "recording started": {"level": "info", "file": path},
     }.items():
         assert {key: logged[event].get(key) for key in values} == values
-
-
-def test_log_of_json_has_no_priorities_in_the_journal(log_of):
-    for line, (_, text) in zip(log_of(*WARNED, "--log", "json", journal="{}:{}"), LINES, strict=True):
-        assert line.startswith("{") and json.loads(line)["event"] in text
 
 
 @pytest.mark.parametrize("level, lines, count", [("info", LINES, 3), ("warn", LINES[1:2], 2), ("error", [], 2)])
@@ -126,36 +117,32 @@ def test_daemon_that_cannot_write_its_log_serves(daemon, form):
     assert server.process.wait(TIMEOUT_SECONDS) == 0
 
 
-def test_requests_are_rejected_as_before_while_nobody_reads_the_log(program, client, ticks):
+def test_requests_are_rejected_as_before_while_nobody_reads_the_log(daemon, client, ticks):
     """The thread of ticks writes the log of rejected requests. It waits for the log, or writes it for thirty ticks."""
-    args = [program, *ANYWHERE, "--metrics", "127.0.0.1:0", "--until-eof"]
-    how = {"stdin": subprocess.PIPE, "stdout": subprocess.DEVNULL, "stderr": subprocess.PIPE, "env": ticks.env}
-    with subprocess.Popen(args, **how) as process:
-        try:
-            addresses = {}
-            while len(addresses) < 2:
-                found = re.search(rb"\] (metrics |)listening address=(\S+):([0-9]+)$", process.stderr.readline())
-                if found:
-                    addresses[found[1]] = found[2].decode(), int(found[3])
-            with open(os.open(f"/proc/{process.pid}/fd/2", os.O_WRONLY | os.O_NONBLOCK), "wb", buffering=0) as pipe:
-                while pipe.write(b"x"):
-                    pass
-            connection = client(addresses[b""])
-            still = 0
-            for _ in range(30):
-                expect_status(connection, post(b"["), 400)
-                begun, end = ticks.begun(), time.monotonic() + 0.3
-                ticks.add(0.1)
-                while ticks.begun() == begun and time.monotonic() < end:
-                    time.sleep(0.001)
-                # If the thread waits for the log, no tick follows.
-                still = still + 1 if ticks.begun() == begun else 0
-                if still == 5:
-                    break
-            expect_status(connection, post(b"["), 400)
-            scrape(addresses[b"metrics "])
-        finally:
-            process.kill()
+    read_end, write_end = os.pipe()
+    server = daemon(stderr=write_end, env=ticks.env)
+    server.errors.write(os.read(read_end, 1 << 16))
+    server.errors.flush()
+    with open(os.open(f"/proc/self/fd/{write_end}", os.O_WRONLY | os.O_NONBLOCK), "wb", buffering=0) as pipe:
+        while pipe.write(b"x"):
+            pass
+    connection = client(server)
+    still = 0
+    for _ in range(30):
+        expect_status(connection, post(b"["), 400)
+        begun, end = ticks.begun(), time.monotonic() + 0.3
+        ticks.add(0.1)
+        while ticks.begun() == begun and time.monotonic() < end:
+            time.sleep(0.001)
+        # If the thread waits for the log, no tick follows.
+        still = still + 1 if ticks.begun() == begun else 0
+        if still == 5:
+            break
+    expect_status(connection, post(b"["), 400)
+    server.scrape()
+    server.kill()
+    os.close(read_end)
+    os.close(write_end)
 
 
 WATCHED = "/watched"

@@ -114,8 +114,7 @@ def test_metrics_show_what_two_clients_do(daemon, client):
     server.expect({REQUESTS_HELD: 1, ("bayeux_requests", ""): 1, OPEN: 2, SESSIONS: 1, CONNECTS_HELD: 1, FILED: 0})
     expect_success(second.ask([{"channel": CHANNEL, "data": data, **session} for data in (1, 2)]), 2)
     events = len(first.response().items()) - 1
-    lags = [("bayeux_shard_lag_entries", f'{{shard="{it}"}}') for it in range(2)]
-    calm = dict.fromkeys([("bayeux_requests", ""), REQUESTS_HELD, CONNECTS_HELD, FILED, *lags], 0)
+    calm = dict.fromkeys([("bayeux_requests", ""), REQUESTS_HELD, CONNECTS_HELD, FILED, *LAGS], 0)
     before = server.expect({**calm, OPEN: 2, SESSIONS: 1, ("bayeux_events_total", ""): events})
     growing = TICKED, ("bayeux_list_entries_total", "")
     wait_until(f"{growing} grow", lambda: all(server.scrape()[it] > before[it] for it in growing))

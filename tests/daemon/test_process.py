@@ -11,10 +11,6 @@ from daemon import AT_ONCE, check_serves, expect_status, post
 from runs import ANYWHERE
 from strace import NO_STRACE, STRACE, can_trace, start_traced
 
-# Flags with limits, and the limits and times in the metrics.
-LIMITS = ["--limit=3", "--bytes=6000", "--patterns=7", "--sessions=8", "--body=9000", "--shards=2"]
-LIMITED = {"events": 3, "bytes": 6000, "patterns": 7, "sessions": 8, "body": 9000, "shards": 2}
-SECONDS = {"timeout": 1.5, "interval": 2, "max_interval": 4294967.295}
 # How much the metrics of memory may differ from what the system reports shortly afterwards, in bytes, or a tenth if that is more.
 MEMORY_CHANGE = 64 << 20
 # More files than some systems list in one call.
@@ -41,11 +37,11 @@ def process_metrics(server):
     return {name: value for (name, _), value in server.scrape().items() if name.startswith("process_")}
 
 
-def test_metrics_show_the_version_and_the_limits(daemon):
-    server = daemon(*LIMITS, "--timeout=1500ms", "--interval=2s", "--max-interval=4294967295")
-    limits = {("bayeux_limit", f'{{name="{name}"}}'): value for name, value in LIMITED.items()}
-    times = {(f"bayeux_{name}_seconds", ""): value for name, value in SECONDS.items()}
-    server.expect({("bayeux_build_info", f'{{version="{read("VERSION").strip()}"}}'): 1, **limits, **times})
+def test_metrics_show_the_version_and_the_times(daemon):
+    """tests/daemon/test_flags.py looks at the limits."""
+    server = daemon("--timeout=1500ms", "--interval=2s", "--max-interval=4294967295")
+    times = {(f"bayeux_{name}_seconds", ""): value for name, value in (("timeout", 1.5), ("interval", 2), ("max_interval", 4294967.295))}
+    server.expect({("bayeux_build_info", f'{{version="{read("VERSION").strip()}"}}'): 1, **times})
 
 
 def test_metrics_show_the_start_and_the_limit_of_files(daemon):
@@ -110,29 +106,21 @@ def test_small_segments_are_sent_without_delay(daemon, client, tmp_path):
     wait_until("the option of the connection", lambda: "TCP_NODELAY, [1]" in trace.read_text(encoding="ascii"))
 
 
-def counts():
-    """Returns the numbers of processors with which a daemon is tried."""
-    most = len(os.sched_getaffinity(0))
-    return sorted({1, 2, most} & {*range(1, most + 1)})
+PROCESSORS = len(os.sched_getaffinity(0))
 
 
-@pytest.mark.parametrize("count", counts())
+@pytest.mark.parametrize("count", sorted({1, min(2, PROCESSORS), PROCESSORS}))
 @pytest.mark.parametrize("shards", [None, 5])
 def test_each_processor_has_a_shard_and_a_worker_thread(daemon, count, shards):
     allowed = sorted(os.sched_getaffinity(0))
     flags = ["--shards", str(shards)] if shards else []
-    server = daemon(*ANYWHERE, "--until-eof", *flags, is_plain=True, preexec_fn=lambda: os.sched_setaffinity(0, allowed[:count]))
+    flags += [*ANYWHERE, "--metrics", "127.0.0.1:0", "--until-eof"]
+    server = daemon(*flags, is_plain=True, preexec_fn=lambda: os.sched_setaffinity(0, allowed[:count]))
     check_serves(server.address, "/processors")
     assert f" shards={shards or min(64, count)} " in server.full_log().decode()
-    # The others are the first, and those of ticks and standard input.
-    wait_until("the number of threads", lambda: len(server.threads()) >= count + 3)
+    # The others are the first, and those of ticks, metrics and standard input.
+    wait_until("the number of threads", lambda: len(server.threads()) >= count + 4)
     # Each request gives a thread that starts late the time to do so.
     for _ in range(20):
         check_serves(server.address, "/processors")
-    assert len(server.threads()) == count + 3
-
-
-def test_metrics_listener_has_a_thread(daemon):
-    """A thread for each processor serves connections. The others are the first, and those of ticks, metrics and standard input."""
-    server = daemon()
-    wait_until("the number of threads", lambda: len(server.threads()) >= len(os.sched_getaffinity(0)) + 4)
+    assert len(server.threads()) == count + 4

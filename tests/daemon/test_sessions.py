@@ -126,13 +126,6 @@ def expect_limit_of_sessions(server, connection, count):
     expect_events(poll(connection, session), [{"channel": "/most", "data": 1}])
 
 
-def test_as_many_sessions_live_as_the_flag_says(daemon, client):
-    server = daemon("--sessions", "1000")
-    connection = client(server)
-    open_many(connection, 999)
-    expect_limit_of_sessions(server, connection, 1000)
-
-
 @pytest.mark.proved
 @pytest.mark.alone
 @pytest.mark.timeout(900)

@@ -49,14 +49,13 @@ def read_list(address, path):
     return [json.loads(line) for line in response.body.splitlines()]
 
 
-def differences(values, expected):
-    """Returns a text with the values that are not as `expected`, or an empty text if there are none."""
-    return ", ".join(f"{''.join(name)} is {values[name]}, not {value}" for name, value in expected.items() if values[name] != value)
-
-
 def expect_values(address, expected, pause=lambda: time.sleep(0.02)):
     """Waits until the metrics have the values `expected`, and returns all values. `pause`: as for `wait_for_metrics`."""
-    return wait_for_metrics(address, lambda values: differences(values, expected), pause)
+
+    def fault_of(values):
+        return ", ".join(f"{''.join(name)} is {values[name]}, not {value}" for name, value in expected.items() if values[name] != value)
+
+    return wait_for_metrics(address, fault_of, pause)
 
 
 def wait_for_metrics(address, fault_of, pause=lambda: time.sleep(0.02)):

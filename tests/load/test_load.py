@@ -9,7 +9,6 @@ import json
 import os
 import pty
 import re
-import resource
 import select
 import subprocess
 import threading
@@ -473,12 +472,6 @@ def test_faults_of_the_server_are_named(start, clock, what, kind):
         expect_message(start(server, f"3 1 1 {EVENTS}"), message)
 
 
-def test_faults_too_few_descriptors(start, clock):
-    with Server(clock) as server:
-        limit = lambda: resource.setrlimit(resource.RLIMIT_NOFILE, (16, 16))  # noqa: E731
-        expect_message(start(server, f"50 1 1 {EVENTS}", preexec_fn=limit), SYSTEM)
-
-
 @pytest.mark.parametrize("port", [0, 65_536, "x"])
 def test_faults_nobody_listens(start, clock, port):
     with Server(clock) as server, reserved_port() as unused:
@@ -492,6 +485,7 @@ FAILURES = [
     *(("connect", it, UNREACHED) for it in ("ECONNREFUSED", "EHOSTUNREACH", "ENETUNREACH", "ETIMEDOUT")),
     *((call, it, ENDED) for call in CALLS[1:] for it in ("ECONNRESET", "EPIPE")),
     *((it, *row) for it in CALLS for row in (("ENOMEM", "out of memory"), ("EACCES", SYSTEM))),
+    ("socket", "EMFILE", SYSTEM),
 ]
 
 

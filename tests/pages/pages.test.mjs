@@ -90,24 +90,6 @@ test('ages, numbers and failed publishes as texts', () => {
   }
 });
 
-// The script of the tutorial draws the last sixty numbers, the newest at the right.
-test('the script of the tutorial', () => {
-  const page = new Page(SITE, codeOf('TUTORIAL.md', 'html', 'id="curve"'));
-  page.run(codeOf('TUTORIAL.md', 'js', 'points.push'));
-  const [[pattern, listener]] = page.client.listeners;
-  assert.deepEqual([page.client.url, pattern, page.client.isStarted], ['/cometd', '/load/*', true]);
-  page.client.onstate('interrupted', 'fetch failed');
-  assert.equal(page.element('state').textContent, 'interrupted fetch failed');
-  const points = () => page.element('curve').getAttribute('points').split(' ').map((it) => it.split(',').map(Number));
-  listener('text');
-  listener(0.5);
-  assert.deepEqual([page.element('value').textContent, points()], ['0.50', [[0, 75]]]);
-  for (let number = 1; number <= 100; number++) listener(number);
-  assert.equal(page.element('value').textContent, '100.00');
-  assert.deepEqual(points(), Array.from({ length: 60 }, (_, at) => [10 * at, 145 - (140 * (41 + at)) / 100]));
-  assert.equal(page.element('curve').closest('svg').getAttribute('viewBox'), '0 0 600 150');
-});
-
 // The example of the client's guide loads the state once it is connected and after a gap, and shows the newest one.
 test('the example that loads the state', async () => {
   const page = new Page(SITE, '<p id="price"></p>');

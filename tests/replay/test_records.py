@@ -306,12 +306,9 @@ def test_late_answer_is_found_in_an_endless_record(lag: int, monkeypatch) -> Non
     assert 10 + lag <= seconds <= 13 + 2 * lag
 
 
-@pytest.mark.parametrize("lag", [0, 30])
-def test_answer_of_a_late_replay_is_compared(lag: int, monkeypatch) -> None:
-    assert find_late_answer(monkeypatch, lag, True)[:2] == (None, 1)
-
-
-def test_line_that_the_replay_cannot_read_is_found_after_pushes(monkeypatch) -> None:
+def test_late_replay_is_waited_for_unless_it_cannot_read_a_line(monkeypatch) -> None:
+    for lag in (0, 30):
+        assert find_late_answer(monkeypatch, lag, True)[:2] == (None, 1)
     assert find_late_answer(monkeypatch, 0, False, bad=True)[0] == (0, None)
 
 
@@ -355,17 +352,10 @@ def test_items_that_are_nested_too_deeply_are_refused() -> None:
 
 
 @pytest.mark.parametrize("way", [WAYS[0], WAYS[1], WAYS[3]], ids=" ".join)
-def test_interrupt_of_a_call_that_does_not_follow(way: list[str], tmp_path: Path) -> None:
-    replay = make_program(tmp_path / "replay", 'echo $$ >"$0.started"; exec sleep 100')
-    started, record = tmp_path / "replay.started", tmp_path / "record"
-    record.write_text(f"{FIRST_LINE}\n", encoding="ascii")
-    args = [REPLAY_RECORD, "--record", str(record), *way]
-    process = subprocess.Popen(args, env={**os.environ, "REPLAY": replay}, stdout=subprocess.DEVNULL, stderr=subprocess.PIPE)
-    wait_until("the program has started", lambda: started.exists() and started.read_text(encoding="ascii").endswith("\n"))
-    process.send_signal(signal.SIGINT)
-    status = process.wait(SECONDS)
-    subprocess.run(["kill", started.read_text(encoding="ascii").strip()], check=False, stderr=subprocess.DEVNULL)
-    assert (status, process.communicate()[1]) == (130, b"")
+def test_interrupt_of_a_call_that_does_not_follow(way: list[str], ask: Ask, tmp_path: Path) -> None:
+    replay = make_program(tmp_path / "replay", "kill -INT $PPID; exec cat >/dev/null")
+    found = ask(["--record", "FILE", *way], f"{FIRST_LINE}\n".encode(), env={**os.environ, "REPLAY": replay})
+    assert (found.status, found.output, found.errors) == (130, "", "")
 
 
 def test_installed_script_replays_with_the_program_on_the_path(ask: Ask, tmp_path: Path) -> None:
