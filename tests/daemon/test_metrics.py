@@ -13,7 +13,7 @@ import time
 import pytest
 
 from base import wait_until
-from daemon import CONNECT, FORM, HANDSHAKE, MOST_MESSAGES, Connection, ConnectionEnded, by_callback, by_form, expect_error, expect_status
+from daemon import CONNECT, FORM, HANDSHAKE, MORE_MESSAGES, MOST_MESSAGES, Connection, ConnectionEnded, by_callback, by_form, expect_error, expect_status
 from daemon import expect_success, get, open_many, open_session, post, post_coded, send_connect, subscribe
 from documented import documented_errors, documented_reasons, expect_documented
 from metrics import CONNECTS_HELD, FILED, OPEN, OPENED, REFUSED_TICKS, REQUESTS_HELD, SESSIONS, TICKED, ask_for, read_page
@@ -145,10 +145,12 @@ JUDGED = (
     "a message is not a JSON object",
     "a message has no channel",
     "too many messages in one request",
+    MORE_MESSAGES,
     "the listener is read-only",
     CLOSED,
 )
-LIMITS = ["--sessions", "3", "--limit", "300", "--body", "60000"]
+MANY = MOST_MESSAGES - 1
+LIMITS = ["--sessions", "3", "--limit", "300", "--body", "60000", f"--messages={MANY}"]
 REFUSED = "bayeux_requests_refused_total"
 KINDS = ("handshake", "connect", "subscribe", "unsubscribe", "disconnect")
 # The documented reasons that no client can cause here: those of --no-callback-polling, and one of a server that has run for ages.
@@ -175,7 +177,7 @@ def messages_of(session):
         [{**subscribe_, "channel": "/meta/unsubscribe", "subscription": "/none"}],
         [{"channel": BOTH, **session}],
         *([{**publish, "channel": it}] for it in ("/counted//", OTHER, "/service/a")),
-        [publish] * MOST_MESSAGES,
+        [publish] * MANY,
         [{**connect, "advice": {"timeout": 0}}],
     ]
 
@@ -189,6 +191,7 @@ ANSWERED = [
     (post(b'[{"channel":"/other"},1]'), 400, "a message is not a JSON object"),
     (post(b'[{"channel":"/other"},{}]'), 400, "a message has no channel"),
     (post(json.dumps([{"channel": OTHER}] * (MOST_MESSAGES + 1)).encode()), 400, "too many messages in one request"),
+    (post(json.dumps([{"channel": "/service/a"}] * MOST_MESSAGES).encode()), 400, MORE_MESSAGES),
     (by_callback(b"[]", b"jsonp=a(&"), 400, "the name of the callback is not valid"),
     (post(b"other=[]", FORM), 400, "the parameter message is missing"),
     (post(b"[]")[:-1], 400, "the body ended early"),
@@ -211,7 +214,7 @@ def cases_of(session):
     yield from ([request] for request, _, _ in ANSWERED)
     yield from ([by_callback(json.dumps(it).encode())] for it in ([publish, publish], [ready]))
     yield [of(connect), of(ready)]
-    for messages in ([publish] * MOST_MESSAGES, [publish] * MOST_MESSAGES, [ready], [{"channel": "/meta/disconnect", **session}]):
+    for messages in ([publish] * MANY, [publish] * MANY, [ready], [{"channel": "/meta/disconnect", **session}]):
         yield [of(*messages)]
 
 
