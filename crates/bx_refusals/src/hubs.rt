@@ -23,11 +23,6 @@ use std::sync::Wait;
 ///
 /// Returns, for each hub, a line for each message with its place and its reply, a line for the
 /// tick, and a line with the answer to the connect. The line of the connect itself is `2 waits`.
-///
-/// # Errors
-///
-/// `Memory` if memory runs out outside of the retried calls; `Wrong` for another result than
-/// expected, or if a second attempt fails.
 pub fn run<R>(rt: &R, alloc: Global) -> Result<String, Unlike>
 where
     R: Wait + RandomSource + AllocGlobal,

@@ -66,10 +66,7 @@ fn request(
     moment: u64,
     body: &str,
 ) -> Result<String, Unlike> {
-    let arrival = arrival(alloc, body)?;
-    let Ok(messages) = arrival.read(alloc) else {
-        return Err(Unlike::Memory);
-    };
+    let messages = messages_of(alloc, body)?;
     let Plan {
         slots,
         elements,
@@ -80,6 +77,14 @@ fn request(
     match slots.as_slice().first() {
         Some(Slot::Ready(ready)) => reply(alloc, ready),
         _ => Err(Unlike::Wrong("not answered at once")),
+    }
+}
+
+fn messages_of(alloc: Global, body: &str) -> Result<Vec<Message>, Unlike> {
+    let arrival = arrival(alloc, body)?;
+    match arrival.read(alloc) {
+        Ok(messages) => Ok(messages),
+        Err(_) => Err(Unlike::Memory),
     }
 }
 

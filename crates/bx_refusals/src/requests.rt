@@ -1,4 +1,5 @@
-//! The configuration of the runs, and the texts of responses and of lines.
+//! The configuration of the runs, and the texts of responses and of lines. A text that is not UTF-8
+//! is `Wrong`.
 use crate::unlike::Unlike;
 use bx_advice::{Config, Limit};
 use bx_calls::config_of;
@@ -18,37 +19,21 @@ pub fn config(shards: usize) -> Result<Config, Unlike> {
 }
 
 /// Returns the JSON array of an answer: its events, then its reply.
-///
-/// # Errors
-///
-/// `Memory` if memory runs out; `Wrong` if the text is not UTF-8.
 pub fn text_of(alloc: Global, answer: Answer) -> Result<String, Unlike> {
     string(bx_calls::text_of(alloc, answer)?)
 }
 
 /// Returns the body of a response with `items`, a JSON array.
-///
-/// # Errors
-///
-/// `Memory` if memory runs out; `Wrong` if the text is not UTF-8.
 pub fn response(alloc: Global, items: &[Item]) -> Result<String, Unlike> {
     string(body_text(alloc, items)?)
 }
 
 /// Returns `reply` as JSON.
-///
-/// # Errors
-///
-/// `Memory` if memory runs out; `Wrong` if the text is not UTF-8.
 pub fn reply(alloc: Global, reply: &Reply) -> Result<String, Unlike> {
     string(reply_text(alloc, reply)?)
 }
 
 /// Converts `text`, bytes in UTF-8, to a string.
-///
-/// # Errors
-///
-/// `Wrong` if `text` is not UTF-8.
 pub fn string(text: Vec<u8>) -> Result<String, Unlike> {
     match String::from_utf8(text) {
         Ok(text) => Ok(text),

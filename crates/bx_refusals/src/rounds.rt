@@ -4,10 +4,10 @@ use crate::unlike::{Unlike, check};
 use bx_advice::{Options, ShardCount, WorkerCount};
 use bx_calls::arrival;
 use bx_calls::texts::{ACK_CONNECT, ACK_HANDSHAKE, CONNECT, HANDSHAKE, PUBLISH, SUBSCRIBE};
-use bx_entry::{ByRemainder, Input};
+use bx_entry::{Arrival, ByRemainder, Input};
 use bx_fanout::{Out, Round, RoundFault};
 use bx_shard::OpenGate;
-use std::alloc::Global;
+use std::alloc::{AllocError, Global};
 use std::sync::Arc;
 use std::thread::Threads;
 
@@ -154,11 +154,6 @@ const WORKED: [Worked; 6] = [
 ///
 /// Each line begins with the number of its request in its run, from 1. After the responses of a
 /// run, a line is appended for each connect that is still held.
-///
-/// # Errors
-///
-/// `Memory` if memory runs out outside of the retried calls; `Wrong` for another result than
-/// expected, or if a second attempt fails.
 pub fn run<R: Threads + Sync>(rt: &R, alloc: Global) -> Result<String, Unlike> {
     let mut text = String::new(alloc);
     for worked in WORKED {
@@ -207,11 +202,72 @@ fn new_round(alloc: Global, ride: bool) -> Result<Round<ByRemainder>, Unlike> {
 fn inputs(alloc: Global, requests: Requests) -> Result<Vec<Input>, Unlike> {
     let mut inputs = Vec::new(alloc);
     for (moment, body) in requests {
-        let mut arrival = arrival(alloc, body)?;
-        arrival.moment = *moment;
-        inputs.push(Input::Post(arrival))?;
+        inputs.push(input(alloc, *moment, *body)?)?;
     }
     Ok(inputs)
+}
+
+fn input(alloc: Global, moment: u64, body: &str) -> Result<Input, AllocError> {
+    let arrival = arrival(alloc, body)?;
+    Ok(Input::Post(Arrival { moment, ..arrival }))
+}
+
+// Returns `round` with its sessions redistributed to `shards` shards, unless this is `None`.
+fn redistributed<R: Threads + Sync>(
+    rt: &R,
+    alloc: Global,
+    round: Round<ByRemainder>,
+    shards: Option<usize>,
+) -> Result<Round<ByRemainder>, Unlike> {
+    let Some(shards) = shards else {
+        return Ok(round);
+    };
+    let placing = placing(alloc)?;
+    match ShardCount::new(shards) {
+        Some(shards) => resharded(rt, alloc, round, shards, placing),
+        None => Err(Unlike::Wrong("too many shards")),
+    }
+}
+
+// Redistributes the sessions of `round`. On an error, retries once with the round that it returns.
+fn resharded<R: Threads + Sync>(
+    rt: &R,
+    alloc: Global,
+    round: Round<ByRemainder>,
+    shards: ShardCount,
+    placing: Arc<ByRemainder>,
+) -> Result<Round<ByRemainder>, Unlike> {
+    let again = Arc::try_clone(&placing)?;
+    match resharded_once(rt, alloc, round, shards, placing) {
+        Ok(round) => Ok(round),
+        Err(back) => match resharded_once(rt, alloc, back, shards, again) {
+            Ok(round) => Ok(round),
+            Err(_) => Err(Unlike::Wrong("not redistributed")),
+        },
+    }
+}
+
+// Prover: a function of its own, because a call of `reshard` with other values is proved slowly.
+fn resharded_once<R: Threads + Sync>(
+    rt: &R,
+    alloc: Global,
+    round: Round<ByRemainder>,
+    shards: ShardCount,
+    placing: Arc<ByRemainder>,
+) -> Result<Round<ByRemainder>, Round<ByRemainder>> {
+    match round.reshard(rt, alloc, shards, placing) {
+        Ok(round) => Ok(round),
+        Err((back, _)) => Err(back),
+    }
+}
+
+// Returns the line of a response.
+fn line_of(alloc: Global, out: &Out) -> Result<String, Unlike> {
+    let Ok(items) = &out.result else {
+        return Err(Unlike::Wrong("an input is refused"));
+    };
+    let body = response(alloc, items.as_slice())?;
+    Ok(format!(in alloc; "{} 200 {body}", out.input.saturating_add(1))?)
 }
 
 // A runner of requests, and the outs so far.
@@ -228,58 +284,27 @@ impl<R: Threads + Sync> Dealer<'_, R> {
     fn held_after(&mut self, worked: Worked) -> Result<Vec<usize>, Unlike> {
         let mut round = new_round(self.alloc, worked.ride)?;
         self.deal(&mut round, worked.first)?;
-        let mut round = self.redistributed(round, worked.shards)?;
+        let mut round = redistributed(self.rt, self.alloc, round, worked.shards)?;
         self.deal(&mut round, worked.then)?;
         Ok(round.held(self.alloc)?)
     }
 
-    // Returns `round` with its sessions redistributed to `shards` shards, unless this is `None`. On
-    // an error, retries once with the round that the error returns.
-    fn redistributed(
-        &self,
-        round: Round<ByRemainder>,
-        shards: Option<usize>,
-    ) -> Result<Round<ByRemainder>, Unlike> {
-        let Some(shards) = shards else {
-            return Ok(round);
-        };
-        let Some(shards) = ShardCount::new(shards) else {
-            return Err(Unlike::Wrong("too many shards"));
-        };
-        match self.redistributed_once(round, shards)? {
-            Ok(round) => Ok(round),
-            Err(back) => match self.redistributed_once(back, shards)? {
-                Ok(round) => Ok(round),
-                Err(_) => Err(Unlike::Wrong("not redistributed")),
+    // Runs `requests` and appends their outs. If memory runs out, continues once with the requests
+    // that were not admitted.
+    fn deal(&mut self, round: &mut Round<ByRemainder>, requests: Requests) -> Result<(), Unlike> {
+        let inputs = inputs(self.alloc, requests)?;
+        match self.run(round, inputs.as_slice())? {
+            None => Ok(()),
+            Some(admitted) => match inputs.as_slice().get(admitted..) {
+                Some(rest) => self.deal_rest(round, rest),
+                None => Err(Unlike::Wrong("more was taken in than there is")),
             },
         }
     }
 
-    // Returns `round` with its sessions redistributed to `shards` shards, or as it was if memory
-    // ran out for that.
-    fn redistributed_once(
-        &self,
-        round: Round<ByRemainder>,
-        shards: ShardCount,
-    ) -> Result<Result<Round<ByRemainder>, Round<ByRemainder>>, Unlike> {
-        let placing = placing(self.alloc)?;
-        match round.reshard(self.rt, self.alloc, shards, placing) {
-            Ok(round) => Ok(Ok(round)),
-            Err((back, _)) => Ok(Err(back)),
-        }
-    }
-
-    // Runs `requests` and appends their outs. If memory runs out, continues once with the requests
-    // that were not admitted, and checks that the earlier outs stay.
-    fn deal(&mut self, round: &mut Round<ByRemainder>, requests: Requests) -> Result<(), Unlike> {
-        let inputs = inputs(self.alloc, requests)?;
-        let Some(admitted) = self.run(round, inputs.as_slice())? else {
-            return Ok(());
-        };
+    // Runs `rest` and appends their outs. Checks that the earlier outs stay.
+    fn deal_rest(&mut self, round: &mut Round<ByRemainder>, rest: &[Input]) -> Result<(), Unlike> {
         let front = self.written()?;
-        let Some(rest) = inputs.as_slice().get(admitted..) else {
-            return Err(Unlike::Wrong("more was taken in than there is"));
-        };
         check(self.run(round, rest)?.is_none(), "refused once more")?;
         let whole = self.written()?;
         check(
@@ -313,12 +338,7 @@ impl<R: Threads + Sync> Dealer<'_, R> {
     fn written(&self) -> Result<String, Unlike> {
         let mut text = String::new(self.alloc);
         for out in self.outs.as_slice() {
-            let Ok(items) = &out.result else {
-                return Err(Unlike::Wrong("an input is refused"));
-            };
-            let body = response(self.alloc, items.as_slice())?;
-            let line = format!(in self.alloc; "{} 200 {body}", out.input.saturating_add(1))?;
-            add_line(&mut text, line.as_str())?;
+            add_line(&mut text, line_of(self.alloc, out)?.as_str())?;
         }
         Ok(text)
     }

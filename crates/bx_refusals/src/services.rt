@@ -36,11 +36,6 @@ impl Nonces for Zeros {
 }
 
 /// Makes all exchanges with a new service, and returns the lines of their responses.
-///
-/// # Errors
-///
-/// `Memory` if memory runs out outside of the exchanges; `Wrong` for another result than expected,
-/// or if the second attempt of an exchange fails.
 pub fn run<R>(rt: R) -> Result<String, Unlike>
 where
     R: Wait + RandomSource + AllocGlobal + Copy + Drop,
@@ -61,19 +56,13 @@ impl<R: Wait + Copy + Drop> HubWork<R> for ServiceRun {
     type Fault = Unlike;
 
     fn work<L: HubKind>(self, stage: &Stage<L, R>) -> Result<String, Unlike> {
-        let (rt, alloc) = (stage.rt, stage.alloc);
-        let ServiceRun { task } = self;
-        let hub = Arc::try_clone(&stage.hub)?;
-        let clone = Arc::try_clone(&hub)?;
-        let backend = HubBackend::new(rt, alloc, clone, Access::ReadWrite, Still, Zeros);
-        let service = BayeuxService::new(alloc, backend)?;
         let mut client = Client {
-            rt,
-            alloc,
-            hub,
-            service,
-            task,
-            text: String::new(alloc),
+            rt: stage.rt,
+            alloc: stage.alloc,
+            hub: Arc::try_clone(&stage.hub)?,
+            service: service_of(stage)?,
+            task: self.task,
+            text: String::new(stage.alloc),
             entries: 0,
             sessions: 0,
         };
@@ -81,4 +70,12 @@ impl<R: Wait + Copy + Drop> HubWork<R> for ServiceRun {
         let Client { text, .. } = client;
         Ok(text)
     }
+}
+
+fn service_of<L: HubKind, R: Wait + Copy + Drop>(
+    stage: &Stage<L, R>,
+) -> Result<BayeuxService<HubBackend<L, R, Still, Zeros>>, Unlike> {
+    let hub = Arc::try_clone(&stage.hub)?;
+    let backend = HubBackend::new(stage.rt, stage.alloc, hub, Access::ReadWrite, Still, Zeros);
+    Ok(BayeuxService::new(stage.alloc, backend)?)
 }

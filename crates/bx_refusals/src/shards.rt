@@ -131,20 +131,26 @@ fn apply_all(
 ) -> Result<(), Unlike> {
     let mut connect = 0;
     for deed in deeds {
-        let kind = kind(alloc, *deed)?;
-        if let EntryKind::Connect { .. } = kind {
+        if let Deed::Connect(..) = deed {
             connect = shard.place();
         }
-        apply(alloc, shard, kind)?;
-        let ticket = Ticket {
-            place: connect,
-            shard: 0,
-        };
-        if let Some(answer) = shard.take(ticket) {
-            add_line(text, told(alloc, answer)?.as_str())?;
-        }
+        apply(alloc, shard, kind(alloc, *deed)?)?;
+        add_answer(alloc, shard, connect, text)?;
     }
     Ok(())
+}
+
+// Appends the line of the answer to the connect at `place`, if it is answered.
+fn add_answer(
+    alloc: Global,
+    shard: &mut Shard<ByRemainder>,
+    place: u64,
+    text: &mut String,
+) -> Result<(), Unlike> {
+    match shard.take(Ticket { place, shard: 0 }) {
+        Some(answer) => add_line(text, told(alloc, answer)?.as_str()),
+        None => Ok(()),
+    }
 }
 
 // Publishes `MOST_EVENTS` events, which fills the queue of the session. All entries share one

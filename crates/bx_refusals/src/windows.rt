@@ -37,11 +37,6 @@ const DEEDS: [Deed; 7] = [
 ///
 /// Each line has what a reader finds at each place after the change. The last line has what another
 /// reader finds that has not read before.
-///
-/// # Errors
-///
-/// `Memory` if memory runs out outside of the window's calls; `Wrong` for another result than
-/// expected, or if a second attempt fails.
 pub fn run<R: Wait>(rt: &R, alloc: Global) -> Result<String, Unlike> {
     worked::<Brand, R>(rt, alloc, EmptyWindow::new())
 }

@@ -4,7 +4,7 @@ use crate::unlike::{Unlike, check};
 use bx_advice::WorkerCount;
 use bx_calls::arrival;
 use bx_calls::texts::{CONNECT, HANDSHAKE, PUBLISH, SUBSCRIBE};
-use bx_entry::{AdmitFault, Admitted, ByRemainder, Slot, Ticket};
+use bx_entry::{AdmitFault, ByRemainder, Slot, Ticket};
 use bx_message::Answer;
 use bx_shard::OpenGate;
 use bx_world::{Applied, World};
@@ -17,11 +17,6 @@ const SHARDS: usize = 2;
 /// Returns the text of the answer to one session's connect, after another session has published.
 ///
 /// All requests are admitted first. Then one worker advances the shards.
-///
-/// # Errors
-///
-/// `Memory` if memory runs out outside of the retried calls; `Wrong` for another result than
-/// expected, or if a second attempt fails.
 pub fn run<R: Threads + Sync>(rt: &R, alloc: Global) -> Result<String, Unlike> {
     let placing = Arc::new(alloc, ByRemainder)?;
     let mut world = World::new(alloc, config(SHARDS)?, placing)?;
@@ -36,34 +31,38 @@ fn answer<R: Threads + Sync>(
 ) -> Result<Answer, Unlike> {
     let mut connect = None;
     for body in [HANDSHAKE, HANDSHAKE, SUBSCRIBE, CONNECT, PUBLISH] {
-        let admitted = admit(alloc, world, body)?;
-        connect = connect.or(ticket_of(admitted));
+        connect = connect.or(admit(alloc, world, body)?);
     }
     bring_up(rt, alloc, world)?;
     let ticket = connect.ok_or(Unlike::Wrong("no connect"))?;
     world.take(ticket).ok_or(Unlike::Wrong("no answer"))
 }
 
-fn ticket_of(admitted: Admitted) -> Option<Ticket> {
-    for slot in admitted.slots.into_vec() {
+fn ticket_of(slots: &[Slot]) -> Option<Ticket> {
+    for slot in slots {
         if let Slot::Waiting(ticket) = slot {
-            return Some(ticket);
+            return Some(*ticket);
         }
     }
     None
 }
 
-// Admits a request with the body `body`, and returns its slots. Retries once if memory runs out.
-fn admit(alloc: Global, world: &mut World<ByRemainder>, body: &str) -> Result<Admitted, Unlike> {
+// Admits a request with the body `body`, and returns the ticket of its connect, if it has one.
+// Retries once if memory runs out.
+fn admit(
+    alloc: Global,
+    world: &mut World<ByRemainder>,
+    body: &str,
+) -> Result<Option<Ticket>, Unlike> {
     let arrival = arrival(alloc, body)?;
-    let admitted = match world.admit(alloc, &arrival) {
-        Err(AdmitFault::Memory) => world.admit(alloc, &arrival),
-        admitted => admitted,
-    };
-    match admitted {
-        Ok(admitted) => Ok(admitted),
-        Err(_) => Err(Unlike::Wrong("not admitted")),
+    for _ in 0..2 {
+        match world.admit(alloc, &arrival) {
+            Ok(admitted) => return Ok(ticket_of(admitted.slots.as_slice())),
+            Err(AdmitFault::Memory) => (),
+            Err(_) => break,
+        }
     }
+    Err(Unlike::Wrong("not admitted"))
 }
 
 // Advances the shards. If memory runs out for one of them, checks that exactly one shard is

@@ -3,7 +3,7 @@ use crate::requests::{add_line, reply, text_of};
 use crate::unlike::{Unlike, check};
 use bx_calls::arrival;
 use bx_calls::texts::{CONNECT, HANDSHAKE, PUBLISH, SUBSCRIBE};
-use bx_entry::{Slot, Ticket};
+use bx_entry::{Arrival, Slot, Ticket};
 use bx_hub::{Hub, HubFault, HubKind, Lagging, Pass, PostFault, PostReceipt, Tick};
 use bx_message::Answer;
 use std::alloc::Global;
@@ -57,10 +57,6 @@ impl<'a, L: HubKind, H: Wait + Drop, R: Wait> Caller<'a, L, H, R> {
     }
 
     /// Appends a line with the events and the reply of `answer`.
-    ///
-    /// # Errors
-    ///
-    /// As described at [`Caller`].
     pub fn add_answer(&mut self, answer: Answer) -> Result<(), Unlike> {
         add_line(&mut self.text, text_of(self.alloc, answer)?.as_str())
     }
@@ -86,33 +82,43 @@ impl<'a, L: HubKind, H: Wait + Drop, R: Wait> Caller<'a, L, H, R> {
     ///
     /// Returns the ticket of the last message that waits, or `None` if every message has its reply.
     /// Returns also whether the post did not advance a shard to the end because memory ran out.
-    ///
-    /// # Errors
-    ///
-    /// As described at [`Caller`].
     pub fn post(
         &mut self,
         pass: &mut Pass<L>,
         body: &str,
     ) -> Result<(Option<Ticket>, bool), Unlike> {
-        let mut arrival = arrival(self.alloc, body)?;
-        for _ in 0..2 {
-            match self.hub.post(self.rt, self.alloc, pass, arrival) {
-                Ok(posted) => return self.end_of(posted),
-                Err((back, why)) => {
-                    check(why.fault() == PostFault::Memory, "not posted")?;
-                    arrival = back;
-                }
+        let arrival = arrival(self.alloc, body)?;
+        match self.hub.post(self.rt, self.alloc, pass, arrival) {
+            Ok(posted) => self.end_of(&posted),
+            Err((back, why)) => {
+                check(why.fault() == PostFault::Memory, "not posted")?;
+                self.post_again(pass, back)
             }
         }
-        Err(Unlike::Wrong("refused once more"))
     }
 
-    fn end_of(&mut self, posted: PostReceipt<L>) -> Result<(Option<Ticket>, bool), Unlike> {
+    fn post_again(
+        &mut self,
+        pass: &mut Pass<L>,
+        back: Arrival,
+    ) -> Result<(Option<Ticket>, bool), Unlike> {
+        match self.hub.post(self.rt, self.alloc, pass, back) {
+            Ok(posted) => self.end_of(&posted),
+            Err(_) => Err(Unlike::Wrong("refused once more")),
+        }
+    }
+
+    fn end_of(&mut self, posted: &PostReceipt<L>) -> Result<(Option<Ticket>, bool), Unlike> {
         check(posted.first == self.place, "posted elsewhere")?;
         let is_behind = self.is_behind(posted.advanced.behind())?;
+        let ticket = self.add_all(posted.slots.as_slice())?;
+        Ok((ticket, is_behind))
+    }
+
+    // Appends a line for each of `slots`, and returns the last ticket in them.
+    fn add_all(&mut self, slots: &[Slot]) -> Result<Option<Ticket>, Unlike> {
         let mut ticket = None;
-        for slot in posted.slots.as_slice() {
+        for slot in slots {
             match slot {
                 Slot::Ready(told) => self.add(reply(self.alloc, told)?.as_str())?,
                 Slot::Waiting(waiting) => {
@@ -121,17 +127,13 @@ impl<'a, L: HubKind, H: Wait + Drop, R: Wait> Caller<'a, L, H, R> {
                 }
             }
         }
-        Ok((ticket, is_behind))
+        Ok(ticket)
     }
 
     /// Opens and subscribes the first session, and posts its connect.
     ///
     /// Returns the ticket of the connect, and whether its post did not advance a shard to the end
     /// because memory ran out.
-    ///
-    /// # Errors
-    ///
-    /// As described at [`Caller`].
     pub fn connect(&mut self, pass: &mut Pass<L>) -> Result<(Ticket, bool), Unlike> {
         for body in [HANDSHAKE, SUBSCRIBE] {
             self.post(pass, body)?;
@@ -144,10 +146,6 @@ impl<'a, L: HubKind, H: Wait + Drop, R: Wait> Caller<'a, L, H, R> {
     /// Opens the second session, and publishes from it.
     ///
     /// Returns whether the publish did not advance a shard to the end because memory ran out.
-    ///
-    /// # Errors
-    ///
-    /// As described at [`Caller`].
     pub fn publish(&mut self, pass: &mut Pass<L>) -> Result<bool, Unlike> {
         self.post(pass, HANDSHAKE)?;
         let (_, is_behind) = self.post(pass, PUBLISH)?;
@@ -155,41 +153,41 @@ impl<'a, L: HubKind, H: Wait + Drop, R: Wait> Caller<'a, L, H, R> {
     }
 
     /// Posts a tick at moment 0 and appends its line.
-    ///
-    /// # Errors
-    ///
-    /// As described at [`Caller`].
     pub fn tick(&mut self, pass: &mut Pass<L>) -> Result<(), Unlike> {
-        let mut tick = Tick::new(0);
+        match self.hub.tick(self.rt, self.alloc, pass, Tick::new(0)) {
+            Ok(ticked) => self.end_of_tick(ticked.place, ticked.advanced.behind()),
+            Err((back, why)) => {
+                check(why.fault() == PostFault::Memory, "no tick")?;
+                match self.hub.tick(self.rt, self.alloc, pass, back) {
+                    Ok(ticked) => self.end_of_tick(ticked.place, ticked.advanced.behind()),
+                    Err(_) => Err(Unlike::Wrong("refused once more")),
+                }
+            }
+        }
+    }
+
+    fn end_of_tick(&mut self, place: u64, behind: Lagging) -> Result<(), Unlike> {
+        check(place == self.place, "ticks elsewhere")?;
+        self.is_behind(behind)?;
+        self.add("ticks")
+    }
+
+    /// Takes the answer under `ticket`, or returns `None` if it is not filed.
+    pub fn poll(&self, pass: &mut Pass<L>, ticket: Ticket) -> Result<Option<Answer>, Unlike> {
         for _ in 0..2 {
-            match self.hub.tick(self.rt, self.alloc, pass, tick) {
-                Ok(ticked) => {
-                    check(ticked.place == self.place, "ticks elsewhere")?;
-                    self.is_behind(ticked.advanced.behind())?;
-                    return self.add("ticks");
-                }
-                Err((back, why)) => {
-                    check(why.fault() == PostFault::Memory, "no tick")?;
-                    tick = back;
-                }
+            match self.poll_once(pass, ticket) {
+                Ok(answer) => return Ok(answer),
+                Err(fault) => check(fault == HubFault::Memory, "no telling")?,
             }
         }
         Err(Unlike::Wrong("refused once more"))
     }
 
-    /// Takes the answer under `ticket`, or returns `None` if it is not filed.
-    ///
-    /// # Errors
-    ///
-    /// As described at [`Caller`].
-    pub fn poll(&self, pass: &mut Pass<L>, ticket: Ticket) -> Result<Option<Answer>, Unlike> {
-        for _ in 0..2 {
-            let (polled, _unfiled) = self.hub.poll_answer(self.rt, self.alloc, pass, ticket);
-            match polled {
-                Ok(answer) => return Ok(answer),
-                Err(stopped) => check(stopped.fault() == HubFault::Memory, "no telling")?,
-            }
+    fn poll_once(&self, pass: &mut Pass<L>, ticket: Ticket) -> Result<Option<Answer>, HubFault> {
+        let (polled, _unfiled) = self.hub.poll_answer(self.rt, self.alloc, pass, ticket);
+        match polled {
+            Ok(answer) => Ok(answer),
+            Err(stopped) => Err(stopped.fault()),
         }
-        Err(Unlike::Wrong("refused once more"))
     }
 }

@@ -9,10 +9,6 @@ impl<L: HubKind, H: Wait + Drop, R: Wait> Caller<'_, L, H, R> {
     /// Connects a session with one pass, and publishes from another session with another pass.
     ///
     /// Posts a tick, and returns the answer to the connect.
-    ///
-    /// # Errors
-    ///
-    /// As described at [`Caller`].
     pub fn learned_answer(&mut self) -> Result<Answer, Unlike> {
         let mut reader = self.hub.pass();
         let (ticket, _) = self.connect(&mut reader)?;

@@ -24,21 +24,22 @@ impl<L: HubKind, H: Wait + Drop, R: Wait> Caller<'_, L, H, R> {
     ///
     /// Posts a tick, and returns the answer. The poll that takes the answer does not allocate, so
     /// it is not retried.
-    ///
-    /// # Errors
-    ///
-    /// As described at [`Caller`].
     pub fn awaited_answer(&mut self, task: &MockTask) -> Result<Answer, Unlike> {
-        let mut pass = self.hub.pass();
-        let (ticket, is_behind) = self.connect(&mut pass)?;
-        let is_held = self.is_held(ticket, task)?;
-        check(is_held != is_behind, "behind and not behind")?;
-        let mut held = self.wait(&pass, ticket, task)?;
+        let mut held = self.connect_and_wait(task)?;
         self.publish_and_wake(task)?;
         match self.poll_held(task, &mut held) {
             Poll::Ready(Ok(Some(answer))) => Ok(answer),
             Poll::Ready(_) | Poll::Pending => Err(Unlike::Wrong("no answer")),
         }
+    }
+
+    // Connects a session, and returns a future of the answer, for which `task` waits.
+    fn connect_and_wait(&mut self, task: &MockTask) -> Result<PendingAnswer<L>, Unlike> {
+        let mut pass = self.hub.pass();
+        let (ticket, is_behind) = self.connect(&mut pass)?;
+        let is_held = self.is_held(ticket, task)?;
+        check(is_held != is_behind, "behind and not behind")?;
+        self.wait(&pass, ticket, task)
     }
 
     // Returns `true` if the shard holds the connect, and `false` if it has not applied the connect
@@ -76,14 +77,15 @@ impl<L: HubKind, H: Wait + Drop, R: Wait> Caller<'_, L, H, R> {
         ticket: Ticket,
         task: &MockTask,
     ) -> Result<PendingAnswer<L>, Unlike> {
-        let mut held = waiting(pass, ticket)?;
-        let mut first = self.poll_held(task, &mut held);
-        if matches!(first, Poll::Ready(Err(HubFault::Memory))) {
-            held = waiting(pass, ticket)?;
-            first = self.poll_held(task, &mut held);
+        for _ in 0..2 {
+            let mut held = waiting(pass, ticket)?;
+            match self.poll_held(task, &mut held) {
+                Poll::Pending if !task.is_woken() => return Ok(held),
+                Poll::Ready(Err(HubFault::Memory)) => (),
+                _ => return Err(Unlike::Wrong("an answer too soon")),
+            }
         }
-        check(first.is_pending() && !task.is_woken(), "an answer too soon")?;
-        Ok(held)
+        Err(Unlike::Wrong("refused once more"))
     }
 
     // Publishes and posts a tick. Checks that the publish wakes the task or, if memory ran out when

@@ -36,10 +36,6 @@ pub enum Asked<'a> {
 }
 
 /// Builds the HTTP request for `asked`.
-///
-/// # Errors
-///
-/// `Memory` if memory runs out.
 pub fn request(alloc: Global, asked: Asked<'_>) -> Result<Request<Full<Bytes>>, Unlike> {
     let made = match asked {
         Asked::Post(text) => {
@@ -57,10 +53,6 @@ pub fn request(alloc: Global, asked: Asked<'_>) -> Result<Request<Full<Bytes>>, 
 }
 
 /// Returns `text` with the first `word` replaced by `by`, or `text` if `word` is missing.
-///
-/// # Errors
-///
-/// `AllocError` if memory runs out.
 pub fn replaced(alloc: Global, text: &str, word: &str, by: &str) -> Result<String, AllocError> {
     match text.split_once(word) {
         Some((front, back)) => format!(in alloc; "{front}{by}{back}"),

@@ -37,11 +37,6 @@ impl<S: Backend<Items: Drop>, L: HubKind, R: Wait + Drop> Client<S, L, R> {
     ///
     /// Sessions are numbered by their handshakes in the list. A handshake that fails before it is
     /// admitted gets no number.
-    ///
-    /// # Errors
-    ///
-    /// `Memory` if memory runs out outside of the exchanges; `Wrong` for another result than
-    /// expected, or if the second attempt of an exchange fails.
     pub fn make_all(&mut self) -> Result<(), Unlike> {
         let first = self.open(ACK_HANDSHAKE, "first")?;
         let refused = self.ask(Asked::Post(BROKEN), Adds::Nothing)?;
