@@ -35,15 +35,6 @@ def test_event_reaches_a_waiting_client(daemon, client):
     server.expect_end()
 
 
-def test_connect_gets_all_events_of_a_full_request(daemon, client):
-    connection = client(daemon())
-    session = open_session(connection)
-    subscribe(connection, CHANNEL, session)
-    events = [{"channel": CHANNEL, "data": data} for data in range(MOST_MESSAGES)]
-    expect_success(connection.ask([{**event, **session} for event in events]), MOST_MESSAGES)
-    expect_events(poll(connection, session), events)
-
-
 def test_connect_gets_five_events_of_a_megabyte(daemon, client):
     connection = client(daemon())
     session, data = open_session(connection), [str(number) * 1_000_000 for number in range(5)]
@@ -114,23 +105,14 @@ def work_seconds(server, connection, session, count):
     return spent
 
 
-def expect_limit_of_sessions(server, connection, count):
-    """Checks that the last of `count` sessions can be opened and gets an event, and that no further one can."""
-    connection.renew()
-    session = open_session(connection)
-    subscribe(connection, "/most", session)
-    expect_error(connection.ask([HANDSHAKE]), "503::Too many sessions")
-    server.expect({SESSIONS: count})
-    assert read_list(server.metrics, b"/channels") == [{"pattern": "/most", "subscriptions": 1}]
-    publish(connection, "/most", 1, session)
-    expect_events(poll(connection, session), [{"channel": "/most", "data": 1}])
-
-
 @pytest.mark.proved
 @pytest.mark.alone
 @pytest.mark.timeout(900)
 def test_work_of_the_most_sessions_costs_no_more_than_with_a_thousand(daemon, client):
-    """It may take twice as much processor time. Other processes can only make it slower, so the least of several times counts."""
+    """It may take twice as much processor time. Other processes can only make it slower, so the least of several times counts.
+
+    Then the last session is opened and gets an event, and no further one can be opened.
+    """
     counts = MOST, MOST_LISTED
     servers = [daemon("--sessions", str(it)) for it in counts]
     connections = [client(it) for it in servers]
@@ -140,7 +122,15 @@ def test_work_of_the_most_sessions_costs_no_more_than_with_a_thousand(daemon, cl
     times = [[work_seconds(*it, count=40) for it in zip(servers, connections, sessions)] for _ in range(5)]
     many, few = ([min(them) for them in zip(*its)] for its in zip(*times))
     assert all(found <= 2 * least for found, least in zip(many, few)), f"{many} seconds, and {few} with a thousand"
-    expect_limit_of_sessions(servers[0], connections[0], MOST)
+    server, connection = servers[0], connections[0]
+    connection.renew()
+    session = open_session(connection)
+    subscribe(connection, "/most", session)
+    expect_error(connection.ask([HANDSHAKE]), "503::Too many sessions")
+    server.expect({SESSIONS: MOST})
+    assert read_list(server.metrics, b"/channels") == [{"pattern": "/most", "subscriptions": 1}]
+    publish(connection, "/most", 1, session)
+    expect_events(poll(connection, session), [{"channel": "/most", "data": 1}])
 
 
 # The ways to send a handshake, and the texts around the JSON in the response.

@@ -1,6 +1,8 @@
 """What tests and benchmarks share: paths, pages, waiting, ports, processes, and a C compiler."""
 import contextlib
 import functools
+import importlib.machinery
+import importlib.util
 import os
 import pathlib
 import resource
@@ -24,6 +26,14 @@ CheckFailed = AssertionError
 def read(path):
     """Returns the text of a file of the repository. `path`: from the top on."""
     return (TOP / path).read_text(encoding="utf-8")
+
+
+def load_script(path):
+    """Returns a script of Python as a module, also if its name has no ending."""
+    loader = importlib.machinery.SourceFileLoader(pathlib.Path(path).name, str(path))
+    module = importlib.util.module_from_spec(importlib.util.spec_from_loader(loader.name, loader))
+    loader.exec_module(module)
+    return module
 
 
 @functools.cache

@@ -1,14 +1,6 @@
-// What the pages of examples have in common, and the scripts of documents, without a browser.
+// What the pages of examples have in common, and an example of the client's guide, without a browser.
 import assert from 'node:assert/strict';
 import { HOSTILE, NO_ANSWER, Page, PAGES, read, SITE, test } from './page_place.mjs';
-
-/** Returns the code in `language` of a page of docs that has `text`. */
-function codeOf(page, language, text) {
-  const blocks = [...read(`../docs/${page}`).matchAll(/^```(\w+)\n(.*?)^```$/gms)];
-  const found = blocks.filter(([, kind, code]) => kind === language && code.includes(text)).map(([, , code]) => code);
-  assert.equal(found.length, 1, `${page} has ${found.length} blocks in ${language} with ${text}`);
-  return found[0];
-}
 
 test('the address of the server', () => {
   const local = 'http://127.0.0.1:8087/cometd';
@@ -96,7 +88,8 @@ test('the example that loads the state', async () => {
   const states = [{ version: 1, price: 10 }, { version: 4, price: 13 }, { version: 4, price: 13 }];
   Object.assign(page.window, { fetch: async (url) => ({ json: async () => url === '/price.json' && states.shift() }) });
   const prices = [];
-  page.run(codeOf('CLIENT.md', 'js', 'client.ongap = '));
+  const codes = [...read('../docs/CLIENT.md').matchAll(/^```js\n(.*?)^```$/gms)].map(([, code]) => code);
+  page.run(codes.find((it) => it.includes('client.ongap = ')));
   const [[pattern, listener]] = page.client.listeners;
   assert.equal(pattern, '/price');
   for (const act of [() => {}, () => listener({ version: 3, price: 12 }), () => listener({ version: 2, price: 11 }), () => page.client.ongap(new Date())]) {

@@ -4,7 +4,6 @@ Each call of records.txt is a test: `./bayeux test records -k WORD`.
 """
 import contextlib
 import difflib
-import functools
 import hashlib
 import io
 import itertools
@@ -17,17 +16,16 @@ import subprocess
 import sys
 import threading
 from collections.abc import Callable, Iterator
-from importlib.machinery import SourceFileLoader
-from importlib.util import module_from_spec, spec_from_loader
 from pathlib import Path
 from typing import Any, NamedTuple
 
 import pytest
 import records
-from base import TOP, make_program, read, wait_until
+from base import TOP, load_script, make_program, read, wait_until
 from row_files import blocks_of, expand_macros
 
 REPLAY_RECORD = f"{TOP}/scripts/replay_record"
+CHECKER = load_script(REPLAY_RECORD)
 DIGEST = re.compile(r"sha256\((.*)\)", re.DOTALL)
 TIMES = re.compile(r"times\(([0-9]+) (.)\)")
 # Precedes the arguments of a call for which the file cannot be read to its end. The program that makes such a call.
@@ -240,15 +238,6 @@ def test_follow_counts_what_was_not_compared(growing, tmp_path: Path) -> None:
     it.end(0)
 
 
-@functools.cache
-def load_checker():
-    """Returns scripts/replay_record as a module."""
-    loader = SourceFileLoader("replay_record", REPLAY_RECORD)
-    checker = module_from_spec(spec_from_loader("replay_record", loader))
-    loader.exec_module(checker)
-    return checker
-
-
 class SimulatedRecord(records.Source):
     """A record that grows, and a clock that goes on by 0.1 seconds with each read, in place of that of the scripts.
 
@@ -258,7 +247,7 @@ class SimulatedRecord(records.Source):
     def __init__(self, grow: Callable[["SimulatedRecord"], bytes], monkeypatch: pytest.MonkeyPatch):
         # pylint: disable=super-init-not-called
         self.grow, self.seconds, self.file, self.read = grow, 0.0, io.BytesIO(), 0
-        for module in (records, load_checker()):
+        for module in (records, CHECKER):
             monkeypatch.setattr(module, "time", self)
 
     def block(self, size: int) -> bytes:
@@ -278,7 +267,7 @@ def find_late_answer(monkeypatch: pytest.MonkeyPatch, lag: float, answered: bool
     """
     begin = ["0 P [<handshake>]", "1 P [<connect 1>]", "A 1 sha256([<connected 1>])", "2 T", "3 T"]
     blocks = itertools.chain(["".join(f"{record_line(it)}\n" for it in begin).encode()], itertools.repeat(b"1 T\n" * 10))
-    record, check = SimulatedRecord(lambda _: next(blocks), monkeypatch), load_checker().Check()
+    record, check = SimulatedRecord(lambda _: next(blocks), monkeypatch), CHECKER.Check()
     given: list[tuple[float, bytes]] = []
     number, line = 0, 1
     for part in check.parts(record.follow(threading.Event(), None)):
@@ -313,7 +302,7 @@ def test_late_replay_is_waited_for_unless_it_cannot_read_a_line(monkeypatch) -> 
 
 
 def test_check_keeps_nothing_of_a_compared_request() -> None:
-    check, text = load_checker().Check(), b"[]"
+    check, text = CHECKER.Check(), b"[]"
     digest = hashlib.sha256(text).hexdigest()
     for number in range(1, 101):
         check.read_line(2 * number, b"0 P [{}]")
@@ -326,7 +315,7 @@ def test_check_keeps_nothing_of_a_compared_request() -> None:
 
 @pytest.mark.parametrize("text, wanted", [("<opened 1>", (1, 1, 4)), ("<opened 2>", (1, 2, 3))], ids=["right", "wrong"])
 def test_answer_may_be_printed_before_its_line(text: str, wanted: tuple[int, int, int]) -> None:
-    check, line = load_checker().Check(), record_line(f"A 0 sha256([{text}])").encode()
+    check, line = CHECKER.Check(), record_line(f"A 0 sha256([{text}])").encode()
     check.read_line(2, record_line("0 P [<handshake>]").encode())
     check.printed(1, "200", expand_macros("[<opened 1>]").encode())
     # The second line A has no answer left.

@@ -1,8 +1,6 @@
 """The feed of examples/dashboard."""
 from __future__ import annotations
 
-import importlib.machinery
-import importlib.util
 import io
 import json
 import os
@@ -14,6 +12,7 @@ from collections.abc import Callable
 from typing import Any
 
 import pytest
+from base import load_script
 from bayeuxd import Bayeuxd
 from servers import Script, rejected, unknown
 
@@ -41,12 +40,7 @@ def run(script: Script, *args: str, until: Callable[[], object] = lambda: False,
 @pytest.fixture(scope="module")
 def feed() -> Any:
     """The feed as a module."""
-    loader = importlib.machinery.SourceFileLoader("feed", str(FEED))
-    spec = importlib.util.spec_from_loader("feed", loader)
-    assert spec
-    module = importlib.util.module_from_spec(spec)
-    loader.exec_module(module)
-    return module
+    return load_script(FEED)
 
 
 def test_numbers_of_a_command(script: Script) -> None:
