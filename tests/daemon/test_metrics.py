@@ -13,8 +13,8 @@ import time
 import pytest
 
 from base import wait_until
-from daemon import CONNECT, FORM, HANDSHAKE, MORE_MESSAGES, MOST_MESSAGES, Connection, ConnectionEnded, by_callback, by_form, expect_error, expect_status
-from daemon import expect_success, get, open_many, open_session, post, post_coded, send_connect, subscribe
+from daemon import CONNECT, FORM, HANDSHAKE, MORE_MESSAGES, MOST_MESSAGES, Connection, ConnectionEnded, by_callback, by_form, expect_error
+from daemon import expect_status, expect_success, get, open_many, open_session, post, post_coded, send_connect, subscribe
 from documented import documented_errors, documented_reasons, expect_documented
 from metrics import CONNECTS_HELD, FILED, OPEN, OPENED, REFUSED_TICKS, REQUESTS_HELD, SESSIONS, TICKED, ask_for, read_page
 from metrics import wait_for_metrics
