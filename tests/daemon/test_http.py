@@ -64,7 +64,7 @@ def test_only_the_transfer_coding_chunked_is_accepted(daemon, client):
 @pytest.mark.parametrize("flags", [[], ["--readers", "localhost:0"]], ids=["main", "readers"])
 def test_without_callback_polling_only_posts_of_json_are_accepted(daemon, client, flags):
     """The metrics count the others."""
-    server = daemon("--no-callback-polling", *flags)
+    server = daemon("--no-callback-polling", "--connections", "8", *flags)
     address = server.readers if flags else server.address
     connection = client(address)
     for kind in (JSON, b"APPLICATION/json ; charset=utf-8"):
@@ -75,6 +75,8 @@ def test_without_callback_polling_only_posts_of_json_are_accepted(daemon, client
     expect_status(connection, get(b"?message=[]"), 403, "callback-polling is off")
     counts = {'{status="415",reason="the content type is not application/json"}': 7, '{status="403",reason="callback-polling is off"}': 1}
     server.expect({("bayeux_requests_refused_total", labels): count for labels, count in counts.items()})
+    connection.socket.close()
+    server.expect_end()
 
 
 # Requests that are rejected before their bodies are read, and the status and reason of the response.
