@@ -275,7 +275,7 @@ LIMITS = {"events": 3, "bytes": 500, "patterns": 4, "sessions": 5, "body": 6000,
 def address_in(text):
     """Returns the host and the port at the end of `text`."""
     host, _, port = text.split()[-1].rpartition(":")
-    return host, int(port)
+    return host.strip("[]"), int(port)
 
 
 def expect_overflows(connection, sessions):

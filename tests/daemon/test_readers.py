@@ -65,7 +65,7 @@ def test_channels_that_a_pattern_matches_are_allowed(daemon, client):
 def test_output_and_log_name_both_listeners_in_order(daemon):
     server = daemon("--readers", "127.0.0.1:0")
     (_, first), (_, second) = server.address, server.readers
-    log = r"starting listen=localhost:0 readers=127\.0\.0\.1:0 shards=(?s:.*)\n"
+    log = r"starting listen=127\.0\.0\.1:0 readers=127\.0\.0\.1:0 shards=(?s:.*)\n"
     log += rf"\[INFO  bayeuxd\] listening address=\S+:{first}\n\[INFO  bayeuxd\] readers listening address=127\.0\.0\.1:{second}\n"
     assert re.search(log, server.log_tail().decode())
     server.process.stdin.close()

@@ -18,7 +18,7 @@ class Bayeuxd(Daemon):
     `status`: the status with which it must end.
     """
 
-    USUAL = {"--listen": "localhost:0", "--metrics": "127.0.0.1:0", "--max-interval": "600s", "--timeout": "600s"}
+    USUAL = {"--listen": "127.0.0.1:0", "--metrics": "127.0.0.1:0", "--max-interval": "600s", "--timeout": "600s"}
 
     def __init__(self, program, path, *flags, is_plain=False, before=(), **streams):
         # pylint: disable=super-init-not-called
