@@ -73,7 +73,7 @@ async function askByFetch(url, messages, { timeout, headers, isLast, signal }) {
     if (response.ok) return await response.json();
   } catch (cause) {
     if (signal?.aborted) throw signal.reason;
-    if (cause.name === 'TimeoutError') throw noAnswer();
+    if (limit.aborted) throw noAnswer();
     const { code, message } = cause.cause ?? {};
     const mayHaveArrived = code !== 'ECONNREFUSED' && code !== 'ENOTFOUND';
     throw new BayeuxError(response?.ok ? 'protocol' : 'network', message || code || cause.message, { mayHaveArrived, cause });

@@ -47,7 +47,10 @@ REQUESTS: dict[str, tuple[list[str], dict[str, str], int, dict[str, str]]] = {
 }
 # Requests as the log has them, and the form of its lines, which have no query.
 LOGGED = {"POST /cometd 200", "GET /cometd 403", "GET /hello.html 200", "GET /other.html 404", "GET /hello.html 421", "GET /a/b.html 301"}
-LOG_LINE = r'127\.0\.0\.1 \[\d\d/\w{3}/\d{4}(:\d\d){3} [+-]\d{4}\] "[A-Z]+ /[^ ?"]*" \d{3} \d+ (-|\d{3}) (-|\d+\.\d{3}) (-|PASSED|DELAYED|REJECTED)'
+LOG_LINE = (
+    r'(127\.0\.0\.1|::1) \[\d\d/\w{3}/\d{4}(:\d\d){3} [+-]\d{4}\] "[A-Z]+ /[^ ?"]*" '
+    r"\d{3} \d+ (-|\d{3}) (-|\d+\.\d{3}) (-|PASSED|DELAYED|REJECTED)"
+)
 
 
 @pytest.fixture

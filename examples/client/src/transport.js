@@ -42,7 +42,8 @@ async function askByFetch(url, messages, { timeout, headers, isLast, signal }) {
     if (response.ok) return await response.json();
   } catch (cause) {
     if (signal?.aborted) throw signal.reason;
-    if (cause.name === 'TimeoutError') throw noAnswer();
+    // While it reads a body, node 18 throws an error without the signal's reason.
+    if (limit.aborted) throw noAnswer();
     // In node, the inner cause says more than `fetch failed`, also if there was no connection.
     const { code, message } = cause.cause ?? {};
     const mayHaveArrived = code !== 'ECONNREFUSED' && code !== 'ENOTFOUND';
